@@ -1,0 +1,76 @@
+ghost use mathlib.Core.Path.{_≡_};
+ghost use Prim.Native.Nat.{_<_};
+ghost use denote.Ref.{name, now};
+ghost use lib.ListN.{length, getD, set};
+ghost use Rattle.stores.specs.Homes.{lent, past};
+ghost use Rattle.stores.specs.Words.{held, held-small};
+use crate::word_store::WordStore;
+use common::refusal::Refusal;
+
+// A store over lent memory with one word in each cell. Cells past the first 65,536 are unused.
+#[derive(Drop)]
+pub struct PlainStore<'a> {
+    cells: &'a mut [u32],
+}
+
+impl<'a> PlainStore<'a> {
+    // The store over these cells.
+    pub fn new(cells: &'a mut [u32]) -> Self
+        ensures { λ r. ⌜ r .cells ≡ cells .entry ⌝ }
+    {
+        PlainStore { cells }
+    }
+}
+
+pub impl<'a> WordStore for PlainStore<'a> as PlainWords {
+    ghost words = { λ s. held (now (s .cells)) };
+
+    ghost small = { λ s. held-small (now (s .cells)) };
+
+    ghost home = { λ s. lent (name (s .cells)) (past 65536 (now (s .cells))) };
+
+    fn size(&self) -> u32 {
+        count(self.cells)
+    }
+
+    fn read(&self, address: u32) -> Result<u32, Refusal> {
+        if address < self.size() {
+            Ok(word(self.cells, address))
+        } else {
+            Err(Refusal::NoSuchPlace)
+        }
+    }
+
+    fn write(&mut self, address: u32, word: u32) -> Result<(), Refusal> {
+        if address < (*self).size() {
+            put(self.cells, address, word);
+            Ok(())
+        } else {
+            Err(Refusal::NoSuchPlace)
+        }
+    }
+}
+
+// How many of the cells hold a word.
+fn count(cells: &[u32]) -> u32
+    ensures { λ r. ⌜ r ≡ length (held (now (cells .entry))) ⌝ }
+{
+    cells.len().min(65536) as u32
+}
+
+// The word in a cell.
+fn word(cells: &[u32], address: u32) -> u32
+    requires { ⌜ address < length (held (now cells)) ⌝ }
+    ensures { λ r. ⌜ r ≡ getD (held (now (cells .entry))) address 0 ⌝ }
+{
+    cells[address as usize]
+}
+
+// Puts a word into a cell.
+fn put(cells: &mut [u32], address: u32, word: u32)
+    requires { ⌜ address < length (held (now cells)) ⌝ }
+    ensures held { λ _. ⌜ held (now (cells .exit)) ≡ set (held (now (cells .entry))) address word ⌝ }
+    ensures unused { λ _. ⌜ past 65536 (now (cells .exit)) ≡ past 65536 (now (cells .entry)) ⌝ }
+{
+    cells[address as usize] = word;
+}

@@ -1,0 +1,83 @@
+ghost use mathlib.Core.Path.{_≡_};
+ghost use denote.Ref.{name, now};
+ghost use Prim.Native.Nat.{_<_};
+ghost use lib.ListN.{length, getD, set};
+ghost use Rattle.stores.specs.Homes.{lent};
+ghost use Rattle.stores.specs.Registers.{paired, unpaired};
+ghost use Rattle.stores.specs.Words.{held, held-small};
+use crate::word_store::WordStore;
+use common::refusal::Refusal;
+
+// A store over lent registers of 16 bits, two to a word, the high half first.
+// An odd last register is unused, and so are those past the first 65,536 words.
+#[derive(Drop)]
+pub struct RegisterStore<'a> {
+    registers: &'a mut [u16],
+}
+
+impl<'a> RegisterStore<'a> {
+    // The store over these registers.
+    pub fn new(registers: &'a mut [u16]) -> Self
+        ensures { λ r. ⌜ r .registers ≡ registers .entry ⌝ }
+    {
+        RegisterStore { registers }
+    }
+}
+
+pub impl<'a> WordStore for RegisterStore<'a> as RegisterWords {
+    ghost words = { λ s. held (paired (now (s .registers))) };
+
+    ghost small = { λ s. held-small (paired (now (s .registers))) };
+
+    ghost home = { λ s. lent (name (s .registers)) (unpaired (now (s .registers))) };
+
+    fn size(&self) -> u32 {
+        count(self.registers)
+    }
+
+    fn read(&self, address: u32) -> Result<u32, Refusal> {
+        if address < self.size() {
+            Ok(word(self.registers, address))
+        } else {
+            Err(Refusal::NoSuchPlace)
+        }
+    }
+
+    fn write(&mut self, address: u32, word: u32) -> Result<(), Refusal> {
+        if address < (*self).size() {
+            put(self.registers, address, word);
+            Ok(())
+        } else {
+            Err(Refusal::NoSuchPlace)
+        }
+    }
+}
+
+// How many words the registers hold.
+fn count(registers: &[u16]) -> u32
+    ensures { λ r. ⌜ r ≡ length (held (paired (now (registers .entry)))) ⌝ }
+{
+    (registers.len() / 2).min(65536) as u32
+}
+
+// The word whose halves lie in two registers.
+fn word(registers: &[u16], address: u32) -> u32
+    requires { ⌜ address < length (held (paired (now registers))) ⌝ }
+    ensures { λ r. ⌜ r ≡ getD (held (paired (now (registers .entry)))) address 0 ⌝ }
+{
+    let place = 2 * address as usize;
+    let high = registers[place] as u32;
+    let low = registers[place + 1] as u32;
+    high << 16 | low
+}
+
+// Puts the halves of a word into two registers.
+fn put(registers: &mut [u16], address: u32, word: u32)
+    requires { ⌜ address < length (held (paired (now registers))) ⌝ }
+    ensures held { λ _. ⌜ held (paired (now (registers .exit))) ≡ set (held (paired (now (registers .entry)))) address word ⌝ }
+    ensures unused { λ _. ⌜ unpaired (now (registers .exit)) ≡ unpaired (now (registers .entry)) ⌝ }
+{
+    let place = 2 * address as usize;
+    registers[place] = (word >> 16) as u16;
+    registers[place + 1] = (word & 0xffff) as u16;
+}

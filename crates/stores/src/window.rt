@@ -1,0 +1,59 @@
+ghost use mathlib.Core.Path.{_≡_};
+ghost use Prim.Native.Nat.{_+_};
+ghost use Rattle.stores.specs.Homes.{within, before, past};
+ghost use Rattle.stores.specs.Words.{part, part-small};
+use crate::word_store::WordStore;
+use common::refusal::Refusal;
+
+// A store that is a part of another: `length` words of it from `base` on, as far as it goes.
+#[derive(Drop)]
+pub struct Window<S> {
+    below: S,
+    base: u32,
+    length: u32,
+}
+
+impl<S> Window<S> {
+    // The part of the store below that begins at `base` and has at most `length` words.
+    pub fn new(below: S, base: u32, length: u32) -> Self
+        ensures { λ r. ⌜ r ≡ record { below = below; base = base; length = length } ⌝ }
+    {
+        Window { below, base, length }
+    }
+
+    // The store below, given back.
+    pub fn into_below(self) -> S
+        ensures { λ r. ⌜ r ≡ self .below ⌝ }
+    {
+        let Window { below, base: _, length: _ } = self;
+        below
+    }
+}
+
+pub impl<S: WordStore> WordStore for Window<S> as WindowWords {
+    ghost words = { λ s. part (s .base) (s .length) (S·WordStore .words (s .below)) };
+
+    ghost small = { λ s. part-small (s .base) (s .length) (S·WordStore .words (s .below)) (S·WordStore .small (s .below)) };
+
+    ghost home = { λ s. within (S·WordStore .home (s .below)) (before (s .base) (S·WordStore .words (s .below))) (past (s .base + s .length) (S·WordStore .words (s .below))) };
+
+    fn size(&self) -> u32 {
+        self.below.size().saturating_sub(self.base).min(self.length)
+    }
+
+    fn read(&self, address: u32) -> Result<u32, Refusal> {
+        if address < self.size() {
+            self.below.read(self.base + address)
+        } else {
+            Err(Refusal::NoSuchPlace)
+        }
+    }
+
+    fn write(&mut self, address: u32, word: u32) -> Result<(), Refusal> {
+        if address < (*self).size() {
+            self.below.write(self.base + address, word)
+        } else {
+            Err(Refusal::NoSuchPlace)
+        }
+    }
+}
