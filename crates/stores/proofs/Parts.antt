@@ -5,8 +5,12 @@ use mathlib.Core.Path.{_≡_, refl, sym, _∙_, ap}
 use native.Mathlib.Omega.{arith}
 use lib.ListN.{length, getD, set, take, drop, length-take, length-drop}
 use Rattle.std.proofs.shelf.Lists.{getD-take, getD-drop, take-set-le, drop-set-lt, drop-set-add}
+use mathlib.Core.Bool.{true}
+use lib.Dec.{ltb}
+use borrow.Author.Tests.{lt-ltb}
+use Rattle.std.specs.declared.result.Result.the-variants.{Ok}
 use Rattle.stores.specs.Words.{held, part}
-use Rattle.stores.specs.Homes.{before, past}
+use Rattle.stores.specs.Homes.{before, past, Placed}
 
 -- a cut list with a word put in is the list with the word put in, cut
 pub take-set-any : (n : ℕ) (ws : List ℕ) (a w : ℕ) → take n (set ws a w) ≡ set (take n ws) a w
@@ -46,3 +50,15 @@ part-at b n ws a h = getD-take n (drop b ws) a 0 (omega (arith, part-length b n 
 pub part-set : (b n : ℕ) (ws : List ℕ) (a w : ℕ) → part b n (set ws (b + a) w) ≡ set (part b n ws) a w
 unfolding part
 part-set b n ws a w = ap (take n) (drop-set-add b ws a w) ∙ take-set-any n (drop b ws) a w
+
+pub placed : (b n : ℕ) (ws : List ℕ) (a : ℕ) → a < length (part b n ws) → Placed b n ws a (b + a)
+placed b n ws a h =
+    let whole : ltb (b + a) (length ws) ≡ true = lt-ltb (b + a) (length ws) (omega (arith, part-length b n ws)) in
+    let there : ltb a (length (part b n ws)) ≡ true = lt-ltb a (length (part b n ws)) h in
+    record {
+      read = simp (whole, there, part-at b n ws a h);
+      written = simp (whole, there);
+      inside = part-set b n ws a;
+      under = λ w. before-set b ws (b + a) w (omega arith);
+      over = λ w. past-set (b + n) ws (b + a) w (omega (arith, part-length b n ws))
+    }

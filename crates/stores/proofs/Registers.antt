@@ -1,9 +1,13 @@
 -- Words that lie in pairs of registers: what is read there, and what a write there changes.
-use Prim.Native.Nat.{ℕ, zero, suc, min, _+_, _-_, _*_, _/_, _≤_, _<_}
+use Prim.Native.Nat.{ℕ, zero, suc, min, _+_, _-_, _*_, _/_, _%_, _^_, _≤_, _<_}
 use mathlib.Core.List.{List, [], _∷_}
 use mathlib.Core.Path.{_≡_, refl, sym, _∙_, ap}
 use native.Mathlib.Omega.{arith}
-use lib.ListN.{length, getD, set, drop}
+use native.Mathlib.Numerals.{add-one}
+use lib.ListN.{length, getD, set, drop, length-set}
+use lib.Bits.{bitAnd, bitOr}
+use Rattle.std.proofs.shelf.Bits.{and-mask, or-shifted, shl-whole}
+use Rattle.std.proofs.shelf.Lists.{drop-set-lt}
 use Rattle.stores.specs.Registers.{paired, unpaired}
 
 pub length-paired : (rs : List ℕ) → length (paired rs) ≡ length rs / 2
@@ -32,3 +36,24 @@ paired-set (x ∷ (y ∷ rest)) zero (suc i) high low e h = absurd (omega arith)
 paired-set (x ∷ (y ∷ rest)) (suc a) zero high low e h = absurd (omega arith)
 paired-set (x ∷ (y ∷ rest)) (suc a) (suc zero) high low e h = absurd (omega arith)
 paired-set (x ∷ (y ∷ rest)) (suc a) (suc (suc i)) high low e h = ap (λ t. (x * 65536 + y) ∷ t) (paired-set rest a i high low (omega arith) (omega arith))
+
+-- the halves of a word, by shift and mask, make the word
+pub halves : (w : ℕ) → w / 65536 * 65536 + bitAnd w 65535 ≡ w
+halves w = omega (arith, and-mask w 16)
+
+-- two halves, by shift and or, make the word that they are halves of
+pub joined : (high low : ℕ) → high < 65536 → low < 65536 → bitOr ((high * 65536) % 4294967296) low ≡ high * 65536 + low
+joined high low h l = ap (λ n. bitOr n low) (shl-whole high 16 16 32 h (omega arith)) ∙ or-shifted high 16 low l
+
+pub word-put : (rs : List ℕ) (a w : ℕ) → 2 * a + 1 < length rs → paired (set (set rs (2 * a) (w / 65536)) (2 * a + 1) (bitAnd w 65535)) ≡ set (paired rs) a w
+word-put rs a w h =
+    ap (λ j. paired (set (set rs (2 * a) (w / 65536)) j (bitAnd w 65535))) (add-one (2 * a))
+    ∙ paired-set rs a (2 * a) (w / 65536) (bitAnd w 65535) refl (omega arith)
+    ∙ ap (set (paired rs) a) (halves w)
+
+pub word-got : (rs : List ℕ) (a : ℕ) → 2 * a + 1 < length rs → getD (paired rs) a 0 ≡ getD rs (2 * a) 0 * 65536 + getD rs (2 * a + 1) 0
+word-got rs a h = paired-at rs a (2 * a) refl (omega arith) ∙ ap (λ j. getD rs (2 * a) 0 * 65536 + getD rs j 0) (sym (add-one (2 * a)))
+
+pub unpaired-set : (rs : List ℕ) (i v : ℕ) → i < 2 * min 65536 (length rs / 2) → unpaired (set rs i v) ≡ unpaired rs
+unfolding unpaired
+unpaired-set rs i v h = ap (λ n. drop (2 * min 65536 (n / 2)) (set rs i v)) (length-set rs i v) ∙ drop-set-lt (2 * min 65536 (length rs / 2)) rs i v h

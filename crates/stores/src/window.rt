@@ -1,6 +1,7 @@
 ghost use mathlib.Core.Path.{_≡_};
-ghost use Prim.Native.Nat.{_+_};
-ghost use Rattle.stores.specs.Homes.{within, before, past};
+ghost use Prim.Native.Nat.{_+_, _<_};
+ghost use lib.ListN.{length};
+ghost use Rattle.stores.specs.Homes.{within, before, past, Placed};
 ghost use Rattle.stores.specs.Words.{part, part-small};
 use crate::word_store::WordStore;
 use common::refusal::Refusal;
@@ -30,6 +31,16 @@ impl<S> Window<S> {
     }
 }
 
+impl<S: WordStore> Window<S> {
+    // The address below of an address of the window.
+    fn place(&self, address: u32) -> u32
+        requires { ⌜ address < length (part (now self .base) (now self .length) (S·WordStore .words (now self .below))) ⌝ }
+        ensures { λ r. ⌜ Placed (now (self .entry) .base) (now (self .entry) .length) (S·WordStore .words (now (self .entry) .below)) address r ⌝ }
+    {
+        self.base + address
+    }
+}
+
 pub impl<S: WordStore> WordStore for Window<S> as WindowWords {
     ghost words = { λ s. part (s .base) (s .length) (S·WordStore .words (s .below)) };
 
@@ -43,7 +54,7 @@ pub impl<S: WordStore> WordStore for Window<S> as WindowWords {
 
     fn read(&self, address: u32) -> Result<u32, Refusal> {
         if address < self.size() {
-            self.below.read(self.base + address)
+            self.below.read(self.place(address))
         } else {
             Err(Refusal::NoSuchPlace)
         }
@@ -51,7 +62,8 @@ pub impl<S: WordStore> WordStore for Window<S> as WindowWords {
 
     fn write(&mut self, address: u32, word: u32) -> Result<(), Refusal> {
         if address < (*self).size() {
-            self.below.write(self.base + address, word)
+            let place = self.place(address);
+            self.below.write(place, word)
         } else {
             Err(Refusal::NoSuchPlace)
         }
