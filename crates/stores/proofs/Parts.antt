@@ -1,16 +1,16 @@
 -- A list cut to a part of it: what is read there, and what a write there changes.
 use Prim.Native.Nat.{ℕ, zero, suc, min, _+_, _-_, _≤_, _<_}
-use mathlib.Core.List.{List, [], _∷_}
+use mathlib.Core.List.{List, [], _∷_, _++_}
 use mathlib.Core.Path.{_≡_, refl, sym, _∙_, ap}
 use native.Mathlib.Omega.{arith}
-use lib.ListN.{length, getD, set, take, drop, length-take, length-drop}
-use Rattle.std.proofs.shelf.Lists.{getD-take, getD-drop, take-set-le, drop-set-lt, drop-set-add}
+use lib.ListN.{length, getD, set, take, drop, length-take, length-drop, take-append-drop}
+use Rattle.std.proofs.shelf.Lists.{getD-take, getD-drop, take-set-le, drop-set-lt, drop-set-add, drop-drop}
 use mathlib.Core.Bool.{true}
 use lib.Dec.{ltb}
 use borrow.Author.Tests.{lt-ltb}
 use Rattle.std.specs.declared.result.Result.the-variants.{Ok}
-use Rattle.stores.specs.Words.{held, part}
-use Rattle.stores.specs.Homes.{before, past, Placed}
+use Rattle.stores.specs.Words.{held}
+use Rattle.stores.specs.Parts.{part, before, past, Placed}
 
 -- a cut list with a word put in is the list with the word put in, cut
 pub take-set-any : (n : ℕ) (ws : List ℕ) (a w : ℕ) → take n (set ws a w) ≡ set (take n ws) a w
@@ -62,3 +62,16 @@ placed b n ws a h =
       under = λ w. before-set b ws (b + a) w (omega arith);
       over = λ w. past-set (b + n) ws (b + a) w (omega (arith, part-length b n ws))
     }
+
+-- a list is what is held of it and what is past that
+pub held-whole : (ws : List ℕ) → held ws ++ past 65536 ws ≡ ws
+unfolding held past
+held-whole ws = take-append-drop 65536 ws
+
+-- a list is a part of it with what is around that
+pub part-whole : (b n : ℕ) (ws : List ℕ) → before b ws ++ (part b n ws ++ past (b + n) ws) ≡ ws
+unfolding part before past
+part-whole b n ws =
+    ap (λ t. take b ws ++ (take n (drop b ws) ++ t)) (sym (drop-drop n b ws))
+    ∙ ap (λ t. take b ws ++ t) (take-append-drop n (drop b ws))
+    ∙ take-append-drop b ws

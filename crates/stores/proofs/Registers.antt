@@ -1,14 +1,15 @@
 -- Words that lie in pairs of registers: what is read there, and what a write there changes.
 use Prim.Native.Nat.{ℕ, zero, suc, min, _+_, _-_, _*_, _/_, _%_, _^_, _≤_, _<_}
-use mathlib.Core.List.{List, [], _∷_}
+use mathlib.Core.List.{List, [], _∷_, _++_}
 use mathlib.Core.Path.{_≡_, refl, sym, _∙_, ap}
 use native.Mathlib.Omega.{arith}
 use native.Mathlib.Numerals.{add-one}
-use lib.ListN.{length, getD, set, drop, length-set}
+use lib.ListN.{length, getD, set, take, drop, length-set}
 use lib.Bits.{bitAnd, bitOr}
 use Rattle.std.proofs.shelf.Bits.{and-mask, or-shifted, shl-whole}
 use Rattle.std.proofs.shelf.Lists.{drop-set-lt}
-use Rattle.stores.specs.Registers.{paired, unpaired}
+use Rattle.stores.specs.Registers.{paired, halved, unpaired}
+use Rattle.stores.specs.Words.{held}
 
 pub length-paired : (rs : List ℕ) → length (paired rs) ≡ length rs / 2
 unfolding paired
@@ -57,3 +58,16 @@ word-got rs a h = paired-at rs a (2 * a) refl (omega arith) ∙ ap (λ j. getD r
 pub unpaired-set : (rs : List ℕ) (i v : ℕ) → i < 2 * min 65536 (length rs / 2) → unpaired (set rs i v) ≡ unpaired rs
 unfolding unpaired
 unpaired-set rs i v h = ap (λ n. drop (2 * min 65536 (n / 2)) (set rs i v)) (length-set rs i v) ∙ drop-set-lt (2 * min 65536 (length rs / 2)) rs i v h
+
+-- registers are the halves of the first n words in them and what is left
+halves-whole : (n : ℕ) (rs : List ℕ) → ((i : ℕ) → getD rs i 0 < 65536) → halved (take n (paired rs)) ++ drop (2 * min n (length rs / 2)) rs ≡ rs
+unfolding paired halved
+halves-whole zero rs small = ?
+halves-whole (suc n) [] small = ?
+halves-whole (suc n) (h ∷ []) small = ?
+halves-whole (suc n) (h ∷ (l ∷ rest)) small = ?
+
+-- registers are the halves of the words that are held of them, and what holds no word
+pub registers-whole : (rs : List ℕ) → ((i : ℕ) → getD rs i 0 < 65536) → halved (held (paired rs)) ++ unpaired rs ≡ rs
+unfolding held unpaired
+registers-whole rs small = halves-whole 65536 rs small

@@ -1,3 +1,4 @@
 pub mod Words
+pub mod Parts
 pub mod Registers
 pub mod Homes

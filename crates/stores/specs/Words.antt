@@ -4,7 +4,7 @@ use mathlib.Core.List.{List}
 use mathlib.Core.Bool.{cond}
 use native.Mathlib.Omega.{arith}
 use lib.Dec.{ltb}
-use lib.ListN.{length, getD, take, drop, length-take, length-drop}
+use lib.ListN.{length, getD, take, length-take}
 use Rattle.std.specs.declared.result.Result.{Result}
 use Rattle.std.specs.declared.result.Result.the-variants.{Ok, Err}
 use Rattle.common.specs.declared.refusal.Refusal.{Refusal}
@@ -18,18 +18,11 @@ word-at ws a = cond (ltb a (length ws)) (Ok (getD ws a 0)) (Err NoSuchPlace)
 abbrev pub written-at : List ℕ → ℕ → Result (Unit {0}) Refusal
 written-at ws a = cond (ltb a (length ws)) (Ok tt) (Err NoSuchPlace)
 
--- the words that a store holds of those that lie in its memory: 65,536 at most
+-- the words that a store holds of those in its memory: the first 65,536
 unfoldable pub held : List ℕ → List ℕ
 held ws = take 65536 ws
 
--- n words from the place b on, as far as there are any
-unfoldable pub part : ℕ → ℕ → List ℕ → List ℕ
-part b n ws = take n (drop b ws)
-
+-- so there are no more
 pub held-small : (ws : List ℕ) → length (held ws) ≤ 65536
 unfolding held
 held-small ws = simp length-take (omega arith)
-
-pub part-small : (b n : ℕ) (ws : List ℕ) → length ws ≤ 65536 → length (part b n ws) ≤ 65536
-unfolding part
-part-small b n ws small = simp (length-take, length-drop) (omega arith)

@@ -1,5 +1,5 @@
-ghost use mathlib.Core.Path.{_≡_};
-ghost use denote.Ref.{now};
+ghost use denote.Ref.{name, now};
+ghost use Rattle.stores.specs.Homes.{behind};
 use crate::word_store::WordStore;
 use common::refusal::Refusal;
 
@@ -9,7 +9,7 @@ pub impl<S: WordStore> WordStore for &mut S as LentWords {
 
     ghost small = { λ s. S·WordStore .small (now s) };
 
-    ghost home = { λ s. S·WordStore .home (now s) };
+    ghost home = { λ s. behind (name s) (S·WordStore .home (now s)) };
 
     fn size(&self) -> u32 {
         (**self).size()

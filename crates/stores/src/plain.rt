@@ -2,7 +2,8 @@ ghost use mathlib.Core.Path.{_≡_};
 ghost use Prim.Native.Nat.{_<_};
 ghost use denote.Ref.{name, now};
 ghost use lib.ListN.{length, getD, set};
-ghost use Rattle.stores.specs.Homes.{lent, past};
+ghost use Rattle.stores.specs.Homes.{lent};
+ghost use Rattle.stores.specs.Parts.{past};
 ghost use Rattle.stores.specs.Words.{held, held-small};
 use crate::word_store::WordStore;
 use common::refusal::Refusal;
@@ -30,12 +31,33 @@ pub impl<'a> WordStore for PlainStore<'a> as PlainWords {
     ghost home = { λ s. lent (name (s .cells)) (past 65536 (now (s .cells))) };
 
     fn size(&self) -> u32 {
-        count(self.cells)
+        self.cells.size()
+    }
+
+    fn read(&self, address: u32) -> Result<u32, Refusal> {
+        self.cells.read(address)
+    }
+
+    fn write(&mut self, address: u32, word: u32) -> Result<(), Refusal> {
+        self.cells.write(address, word)
+    }
+}
+
+// Lent cells are a store themselves. A struct that holds them so can tell their lender what they hold in the end.
+pub impl<'a> WordStore for &'a mut [u32] as CellWords {
+    ghost words = { λ s. held (now s) };
+
+    ghost small = { λ s. held-small (now s) };
+
+    ghost home = { λ s. lent (name s) (past 65536 (now s)) };
+
+    fn size(&self) -> u32 {
+        count(self)
     }
 
     fn read(&self, address: u32) -> Result<u32, Refusal> {
         if address < self.size() {
-            Ok(word(self.cells, address))
+            Ok(word(self, address))
         } else {
             Err(Refusal::NoSuchPlace)
         }
@@ -43,7 +65,7 @@ pub impl<'a> WordStore for PlainStore<'a> as PlainWords {
 
     fn write(&mut self, address: u32, word: u32) -> Result<(), Refusal> {
         if address < (*self).size() {
-            put(self.cells, address, word);
+            put(self, address, word);
             Ok(())
         } else {
             Err(Refusal::NoSuchPlace)

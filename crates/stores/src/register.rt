@@ -32,12 +32,33 @@ pub impl<'a> WordStore for RegisterStore<'a> as RegisterWords {
     ghost home = { λ s. lent (name (s .registers)) (unpaired (now (s .registers))) };
 
     fn size(&self) -> u32 {
-        count(self.registers)
+        self.registers.size()
+    }
+
+    fn read(&self, address: u32) -> Result<u32, Refusal> {
+        self.registers.read(address)
+    }
+
+    fn write(&mut self, address: u32, word: u32) -> Result<(), Refusal> {
+        self.registers.write(address, word)
+    }
+}
+
+// Lent registers are a store themselves. A struct that holds them so can tell their lender what they hold in the end.
+pub impl<'a> WordStore for &'a mut [u16] as PairWords {
+    ghost words = { λ s. held (paired (now s)) };
+
+    ghost small = { λ s. held-small (paired (now s)) };
+
+    ghost home = { λ s. lent (name s) (unpaired (now s)) };
+
+    fn size(&self) -> u32 {
+        count(self)
     }
 
     fn read(&self, address: u32) -> Result<u32, Refusal> {
         if address < self.size() {
-            Ok(word(self.registers, address))
+            Ok(word(self, address))
         } else {
             Err(Refusal::NoSuchPlace)
         }
@@ -45,7 +66,7 @@ pub impl<'a> WordStore for RegisterStore<'a> as RegisterWords {
 
     fn write(&mut self, address: u32, word: u32) -> Result<(), Refusal> {
         if address < (*self).size() {
-            put(self.registers, address, word);
+            put(self, address, word);
             Ok(())
         } else {
             Err(Refusal::NoSuchPlace)

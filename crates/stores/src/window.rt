@@ -1,8 +1,8 @@
 ghost use mathlib.Core.Path.{_≡_};
 ghost use Prim.Native.Nat.{_+_, _<_};
 ghost use lib.ListN.{length};
-ghost use Rattle.stores.specs.Homes.{within, before, past, Placed};
-ghost use Rattle.stores.specs.Words.{part, part-small};
+ghost use Rattle.stores.specs.Homes.{within};
+ghost use Rattle.stores.specs.Parts.{part, before, past, part-small, Placed};
 use crate::word_store::WordStore;
 use common::refusal::Refusal;
 
@@ -46,7 +46,7 @@ pub impl<S: WordStore> WordStore for Window<S> as WindowWords {
 
     ghost small = { λ s. part-small (s .base) (s .length) (S·WordStore .words (s .below)) (S·WordStore .small (s .below)) };
 
-    ghost home = { λ s. within (S·WordStore .home (s .below)) (before (s .base) (S·WordStore .words (s .below))) (past (s .base + s .length) (S·WordStore .words (s .below))) };
+    ghost home = { λ s. within (S·WordStore .home (s .below)) (s .base) (s .length) (before (s .base) (S·WordStore .words (s .below))) (past (s .base + s .length) (S·WordStore .words (s .below))) };
 
     fn size(&self) -> u32 {
         self.below.size().saturating_sub(self.base).min(self.length)
