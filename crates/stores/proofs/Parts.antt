@@ -60,7 +60,7 @@ placed b n ws a h =
       written = simp (whole, there);
       inside = part-set b n ws a;
       under = λ w. before-set b ws (b + a) w (omega arith);
-      over = λ w. past-set (b + n) ws (b + a) w (omega (arith, part-length b n ws))
+      over = λ w. past-set (b + n) ws (b + a) w (omega (arith, part-length b n ws));
     }
 
 -- a list is what is held of it and what is past that

@@ -5,11 +5,12 @@ use mathlib.Core.Path.{_≡_, refl, sym, _∙_, ap}
 use native.Mathlib.Omega.{arith}
 use native.Mathlib.Numerals.{add-one}
 use lib.ListN.{length, getD, set, take, drop, length-set}
-use lib.Bits.{bitAnd, bitOr}
-use Rattle.std.proofs.shelf.Bits.{and-mask, or-shifted, shl-whole}
+use lib.Bits.{bitOr}
+use Rattle.std.proofs.shelf.Bits.{or-shifted, shl-whole, shr-high, mod-low}
 use Rattle.std.proofs.shelf.Lists.{drop-set-lt}
-use Rattle.stores.specs.Registers.{paired, halved, unpaired}
+use Rattle.stores.specs.Registers.{paired, halved, unpaired, Halves}
 use Rattle.stores.specs.Words.{held}
+use Rattle.stores.proofs.Parts.{held-length, held-at, held-set}
 
 pub length-paired : (rs : List ℕ) → length (paired rs) ≡ length rs / 2
 unfolding paired
@@ -38,34 +39,58 @@ paired-set (x ∷ (y ∷ rest)) (suc a) zero high low e h = absurd (omega arith)
 paired-set (x ∷ (y ∷ rest)) (suc a) (suc zero) high low e h = absurd (omega arith)
 paired-set (x ∷ (y ∷ rest)) (suc a) (suc (suc i)) high low e h = ap (λ t. (x * 65536 + y) ∷ t) (paired-set rest a i high low (omega arith) (omega arith))
 
--- the halves of a word, by shift and mask, make the word
-pub halves : (w : ℕ) → w / 65536 * 65536 + bitAnd w 65535 ≡ w
-halves w = omega (arith, and-mask w 16)
-
 -- two halves, by shift and or, make the word that they are halves of
 pub joined : (high low : ℕ) → high < 65536 → low < 65536 → bitOr ((high * 65536) % 4294967296) low ≡ high * 65536 + low
 joined high low h l = ap (λ n. bitOr n low) (shl-whole high 16 16 32 h (omega arith)) ∙ or-shifted high 16 low l
 
-pub word-put : (rs : List ℕ) (a w : ℕ) → 2 * a + 1 < length rs → paired (set (set rs (2 * a) (w / 65536)) (2 * a + 1) (bitAnd w 65535)) ≡ set (paired rs) a w
-word-put rs a w h =
-    ap (λ j. paired (set (set rs (2 * a) (w / 65536)) j (bitAnd w 65535))) (add-one (2 * a))
-    ∙ paired-set rs a (2 * a) (w / 65536) (bitAnd w 65535) refl (omega arith)
-    ∙ ap (set (paired rs) a) (halves w)
-
-pub word-got : (rs : List ℕ) (a : ℕ) → 2 * a + 1 < length rs → getD (paired rs) a 0 ≡ getD rs (2 * a) 0 * 65536 + getD rs (2 * a + 1) 0
-word-got rs a h = paired-at rs a (2 * a) refl (omega arith) ∙ ap (λ j. getD rs (2 * a) 0 * 65536 + getD rs j 0) (sym (add-one (2 * a)))
-
-pub unpaired-set : (rs : List ℕ) (i v : ℕ) → i < 2 * min 65536 (length rs / 2) → unpaired (set rs i v) ≡ unpaired rs
+-- a word put where words lie leaves the other registers as they are
+unpaired-set : (rs : List ℕ) (i v : ℕ) → i < 2 * min 65536 (length rs / 2) → unpaired (set rs i v) ≡ unpaired rs
 unfolding unpaired
 unpaired-set rs i v h = ap (λ n. drop (2 * min 65536 (n / 2)) (set rs i v)) (length-set rs i v) ∙ drop-set-lt (2 * min 65536 (length rs / 2)) rs i v h
+
+-- the word of address a lies in the registers 2 * a and 2 * a + 1
+pub halves : (rs : List ℕ) (a : ℕ) → a < length (held (paired rs)) → Halves rs a (2 * a)
+halves rs a h =
+    let there : 2 * a + 1 < length rs = omega (arith, held-length (paired rs), length-paired rs) in
+    let next : 2 * a + 1 ≡ suc (2 * a) = add-one (2 * a) in
+    let whole : (w : ℕ) → w / 65536 * 65536 + w % 65536 ≡ w = λ w. omega arith in
+    record {
+      there = there;
+      word =
+          held-at (paired rs) a h
+          ∙ paired-at rs a (2 * a) refl (omega arith)
+          ∙ ap (λ j. getD rs (2 * a) 0 * 65536 + getD rs j 0) (sym next);
+      inside = λ w.
+          ap (λ j. held (paired (set (set rs (2 * a) (w / 65536)) j (w % 65536)))) next
+          ∙ ap held (paired-set rs a (2 * a) (w / 65536) (w % 65536) refl (omega arith))
+          ∙ held-set (paired rs) a (w / 65536 * 65536 + w % 65536)
+          ∙ ap (set (held (paired rs)) a) (whole w);
+      outside = λ w.
+          unpaired-set (set rs (2 * a) (w / 65536)) (2 * a + 1) (w % 65536) (omega (arith, held-length (paired rs), length-paired rs, length-set rs (2 * a) (w / 65536)))
+          ∙ unpaired-set rs (2 * a) (w / 65536) (omega (arith, held-length (paired rs), length-paired rs));
+    }
 
 -- registers are the halves of the first n words in them and what is left
 halves-whole : (n : ℕ) (rs : List ℕ) → ((i : ℕ) → getD rs i 0 < 65536) → halved (take n (paired rs)) ++ drop (2 * min n (length rs / 2)) rs ≡ rs
 unfolding paired halved
-halves-whole zero rs small = ?
-halves-whole (suc n) [] small = ?
-halves-whole (suc n) (h ∷ []) small = ?
-halves-whole (suc n) (h ∷ (l ∷ rest)) small = ?
+halves-whole zero rs small =
+    let none : 2 * min 0 (length rs / 2) ≡ 0 = omega arith in
+    ap (λ k. drop k rs) none
+halves-whole (suc n) [] small =
+    let none : 2 * min (suc n) 0 ≡ 0 = omega arith in
+    ap (λ k. drop {A = ℕ} k []) none
+halves-whole (suc n) (h ∷ []) small =
+    let none : 2 * min (suc n) 0 ≡ 0 = omega arith in
+    ap (λ k. drop {A = ℕ} k (h ∷ [])) none
+halves-whole (suc n) (h ∷ (l ∷ rest)) small =
+    let two : 2 * min (suc n) (suc (suc (length rest)) / 2) ≡ suc (suc (2 * min n (length rest / 2))) = omega arith in
+    let high : (h * 65536 + l) / 65536 ≡ h = shr-high h 16 l (small 1) in
+    let low : (h * 65536 + l) % 65536 ≡ l = mod-low h 16 l (small 1) in
+    let after : halved (take n (paired rest)) ++ drop (2 * min n (length rest / 2)) rest ≡ rest = halves-whole n rest (λ i. small (suc (suc i))) in
+    ap (λ k. ((h * 65536 + l) / 65536) ∷ (((h * 65536 + l) % 65536) ∷ (halved (take n (paired rest)) ++ drop k (h ∷ (l ∷ rest))))) two
+    ∙ ap (λ t. ((h * 65536 + l) / 65536) ∷ (((h * 65536 + l) % 65536) ∷ t)) after
+    ∙ ap (λ x. x ∷ (((h * 65536 + l) % 65536) ∷ rest)) high
+    ∙ ap (λ y. h ∷ (y ∷ rest)) low
 
 -- registers are the halves of the words that are held of them, and what holds no word
 pub registers-whole : (rs : List ℕ) → ((i : ℕ) → getD rs i 0 < 65536) → halved (held (paired rs)) ++ unpaired rs ≡ rs

@@ -2,5 +2,7 @@
 pub mod lent;
 pub mod plain;
 pub mod register;
+#[cfg(test)]
+mod tests;
 pub mod window;
 pub mod word_store;

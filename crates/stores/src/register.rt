@@ -1,9 +1,9 @@
 ghost use mathlib.Core.Path.{_≡_};
 ghost use denote.Ref.{name, now};
-ghost use Prim.Native.Nat.{_<_};
+ghost use Prim.Native.Nat.{_+_, _*_, _/_, _%_, _<_};
 ghost use lib.ListN.{length, getD, set};
 ghost use Rattle.stores.specs.Homes.{lent};
-ghost use Rattle.stores.specs.Registers.{paired, unpaired};
+ghost use Rattle.stores.specs.Registers.{paired, unpaired, Halves};
 ghost use Rattle.stores.specs.Words.{held, held-small};
 use crate::word_store::WordStore;
 use common::refusal::Refusal;
@@ -81,24 +81,51 @@ fn count(registers: &[u16]) -> u32
     (registers.len() / 2).min(65536) as u32
 }
 
-// The word whose halves lie in two registers.
+// The first of the two registers that a word lies in.
+fn place(registers: &[u16], address: u32) -> usize
+    requires { ⌜ address < length (held (paired (now registers))) ⌝ }
+    ensures { λ r. ⌜ Halves (now (registers .entry)) address r ⌝ }
+{
+    2 * address as usize
+}
+
+// The word at an address.
 fn word(registers: &[u16], address: u32) -> u32
     requires { ⌜ address < length (held (paired (now registers))) ⌝ }
     ensures { λ r. ⌜ r ≡ getD (held (paired (now (registers .entry)))) address 0 ⌝ }
 {
-    let place = 2 * address as usize;
-    let high = registers[place] as u32;
-    let low = registers[place + 1] as u32;
-    high << 16 | low
+    let place = place(registers, address);
+    join(registers[place], registers[place + 1])
 }
 
-// Puts the halves of a word into two registers.
+// Puts a word at an address.
 fn put(registers: &mut [u16], address: u32, word: u32)
     requires { ⌜ address < length (held (paired (now registers))) ⌝ }
     ensures held { λ _. ⌜ held (paired (now (registers .exit))) ≡ set (held (paired (now (registers .entry)))) address word ⌝ }
     ensures unused { λ _. ⌜ unpaired (now (registers .exit)) ≡ unpaired (now (registers .entry)) ⌝ }
 {
-    let place = 2 * address as usize;
-    registers[place] = (word >> 16) as u16;
-    registers[place + 1] = (word & 0xffff) as u16;
+    let place = place(registers, address);
+    registers[place] = high(word);
+    registers[place + 1] = low(word);
+}
+
+// The word of two halves.
+fn join(high: u16, low: u16) -> u32
+    ensures { λ r. ⌜ r ≡ high * 65536 + low ⌝ }
+{
+    (high as u32) << 16 | low as u32
+}
+
+// The high half of a word.
+fn high(word: u32) -> u16
+    ensures { λ r. ⌜ r ≡ word / 65536 ⌝ }
+{
+    (word >> 16) as u16
+}
+
+// The low half of a word.
+fn low(word: u32) -> u16
+    ensures { λ r. ⌜ r ≡ word % 65536 ⌝ }
+{
+    (word & 0xffff) as u16
 }

@@ -1,5 +1,5 @@
 ghost use mathlib.Core.Path.{_≡_};
-ghost use Prim.Native.Nat.{_+_, _<_};
+ghost use Prim.Native.Nat.{min, _+_, _<_};
 ghost use lib.ListN.{length};
 ghost use Rattle.stores.specs.Homes.{within};
 ghost use Rattle.stores.specs.Parts.{part, before, past, part-small, Placed};
@@ -14,24 +14,37 @@ pub struct Window<S> {
     length: u32,
 }
 
-impl<S> Window<S> {
+impl<S: WordStore> Window<S> {
     // The part of the store below that begins at `base` and has at most `length` words.
     pub fn new(below: S, base: u32, length: u32) -> Self
         ensures { λ r. ⌜ r ≡ record { below = below; base = base; length = length } ⌝ }
     {
-        Window { below, base, length }
+        Window {
+            below,
+            base,
+            length,
+        }
     }
 
     // The store below, given back.
     pub fn into_below(self) -> S
         ensures { λ r. ⌜ r ≡ self .below ⌝ }
     {
-        let Window { below, base: _, length: _ } = self;
+        let Window {
+            below,
+            base: _,
+            length: _,
+        } = self;
         below
     }
-}
 
-impl<S: WordStore> Window<S> {
+    // How many words there are below from the base on.
+    fn room(&self) -> u32
+        ensures { λ r. ⌜ length (part (now (self .entry) .base) (now (self .entry) .length) (S·WordStore .words (now (self .entry) .below))) ≡ min (now (self .entry) .length) r ⌝ }
+    {
+        self.below.size().saturating_sub(self.base)
+    }
+
     // The address below of an address of the window.
     fn place(&self, address: u32) -> u32
         requires { ⌜ address < length (part (now self .base) (now self .length) (S·WordStore .words (now self .below))) ⌝ }
@@ -49,7 +62,7 @@ pub impl<S: WordStore> WordStore for Window<S> as WindowWords {
     ghost home = { λ s. within (S·WordStore .home (s .below)) (s .base) (s .length) (before (s .base) (S·WordStore .words (s .below))) (past (s .base + s .length) (S·WordStore .words (s .below))) };
 
     fn size(&self) -> u32 {
-        self.below.size().saturating_sub(self.base).min(self.length)
+        self.room().min(self.length)
     }
 
     fn read(&self, address: u32) -> Result<u32, Refusal> {

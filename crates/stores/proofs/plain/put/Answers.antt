@@ -9,5 +9,5 @@ pub returns : need.returns
 returns c =
     record {
       held = held-set (c .args .cells .now) (c .args .address) (c .args .word);
-      unused = past-set 65536 (c .args .cells .now) (c .args .address) (c .args .word) (omega (arith, held-length (c .args .cells .now)))
+      unused = past-set 65536 (c .args .cells .now) (c .args .address) (c .args .word) (omega (arith, held-length (c .args .cells .now)));
     }

@@ -1,0 +1,6 @@
+use borrow.Author.Needs.{needs}
+use Rattle.stores.proofs.Parts.{held-whole}
+use Rattle.stores.proofs.tests.put_cell.Needs as need
+
+pub returns : need.returns
+returns c = search (needs, held-whole)
