@@ -1,10 +1,11 @@
 ghost use mathlib.Core.Path.{_≡_};
-ghost use Prim.Native.Nat.{_<_};
+ghost use Prim.Native.Nat.{min, _<_};
 ghost use denote.Ref.{name, now};
 ghost use lib.ListN.{length, getD, set};
 ghost use Rattle.stores.specs.Homes.{lent};
 ghost use Rattle.stores.specs.Parts.{past};
 ghost use Rattle.stores.specs.Words.{held, held-small};
+use crate::word_store::MOST_WORDS;
 use crate::word_store::WordStore;
 use common::refusal::Refusal;
 
@@ -52,7 +53,7 @@ pub impl<'a> WordStore for &'a mut [u32] as CellWords {
     ghost home = { λ s. lent (name s) (past 65536 (now s)) };
 
     fn size(&self) -> u32 {
-        count(self)
+        room(self).min(MOST_WORDS) as u32
     }
 
     fn read(&self, address: u32) -> Result<u32, Refusal> {
@@ -73,11 +74,11 @@ pub impl<'a> WordStore for &'a mut [u32] as CellWords {
     }
 }
 
-// How many of the cells hold a word.
-fn count(cells: &[u32]) -> u32
-    ensures { λ r. ⌜ r ≡ length (held (now (cells .entry))) ⌝ }
+// How many words the cells have room for.
+fn room(cells: &[u32]) -> usize
+    ensures { λ r. ⌜ length (held (now (cells .entry))) ≡ min 65536 r ⌝ }
 {
-    cells.len().min(65536) as u32
+    cells.len()
 }
 
 // The word in a cell.

@@ -1,10 +1,11 @@
 ghost use mathlib.Core.Path.{_≡_};
 ghost use denote.Ref.{name, now};
-ghost use Prim.Native.Nat.{_+_, _*_, _/_, _%_, _<_};
+ghost use Prim.Native.Nat.{min, _+_, _*_, _/_, _%_, _<_};
 ghost use lib.ListN.{length, getD, set};
 ghost use Rattle.stores.specs.Homes.{lent};
 ghost use Rattle.stores.specs.Registers.{paired, unpaired, Halves};
 ghost use Rattle.stores.specs.Words.{held, held-small};
+use crate::word_store::MOST_WORDS;
 use crate::word_store::WordStore;
 use common::refusal::Refusal;
 
@@ -53,7 +54,7 @@ pub impl<'a> WordStore for &'a mut [u16] as PairWords {
     ghost home = { λ s. lent (name s) (unpaired (now s)) };
 
     fn size(&self) -> u32 {
-        count(self)
+        room(self).min(MOST_WORDS) as u32
     }
 
     fn read(&self, address: u32) -> Result<u32, Refusal> {
@@ -74,11 +75,11 @@ pub impl<'a> WordStore for &'a mut [u16] as PairWords {
     }
 }
 
-// How many words the registers hold.
-fn count(registers: &[u16]) -> u32
-    ensures { λ r. ⌜ r ≡ length (held (paired (now (registers .entry)))) ⌝ }
+// How many words the registers have room for.
+fn room(registers: &[u16]) -> usize
+    ensures { λ r. ⌜ length (held (paired (now (registers .entry)))) ≡ min 65536 r ⌝ }
 {
-    (registers.len() / 2).min(65536) as u32
+    registers.len() / 2
 }
 
 // The first of the two registers that a word lies in.

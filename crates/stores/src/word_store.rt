@@ -6,6 +6,9 @@ ghost use Rattle.stores.specs.Words.{word-at, written-at};
 ghost use Rattle.stores.specs.Homes.{Home};
 use common::refusal::Refusal;
 
+// The most words that a store has.
+pub const MOST_WORDS: usize = 65536;
+
 // Memory of words, each an unsigned number of 32 bits. The number of words, the size, never changes.
 pub trait WordStore {
     // The words, in the order of their addresses.
