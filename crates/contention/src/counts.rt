@@ -20,7 +20,8 @@ impl Counts {
     pub fn of(&self, thread: ThreadId) -> u32
         ensures { λ r. ⌜ r ≡ count-of (now (self .entry) .cells) (thread .number) ⌝ }
     {
-        self.cells[thread.index()]
+        let place = thread.index();
+        self.cells[place]
     }
 
     // Raises the count of a thread by so much.

@@ -5,3 +5,5 @@ pub mod karma;
 pub mod kill_prio;
 pub mod policy;
 pub mod suicide;
+#[cfg(test)]
+mod tests;
