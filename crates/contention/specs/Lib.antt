@@ -1,0 +1,3 @@
+pub mod Events
+pub mod Policies
+pub mod Ranks
