@@ -1,6 +1,7 @@
 ghost use Prim.Native.Nat.{_<_};
 
 mod number;
+mod picks;
 
 // The number of a stripe: 0 to 63.
 #[derive(Clone, Copy)]

@@ -1,9 +1,10 @@
 ghost use mathlib.Core.Path.{_≡_};
 ghost use Prim.Native.Nat.{_≤_};
 ghost use Rattle.layout.specs.Limits.{stripe-count};
-ghost use Rattle.layout.specs.SetUps.{numbers-of, set-up-or-refusal};
+ghost use Rattle.layout.specs.SetUps.{numbers-of, set-up-or-refusal, thread-numbered, thread-or-refusal};
 use super::SetUp;
 use common::refusal::Refusal;
+use common::thread_id::ThreadId;
 
 impl SetUp {
     // The set-up of these numbers, or the first of them that is out of its limits.
@@ -39,7 +40,8 @@ impl SetUp {
 
     // How many stripes there are: a power of two, 64 at most.
     pub fn stripes(self) -> u32
-        ensures { λ r. ⌜ r ≡ self .stripes ⌝ }
+        ensures count { λ r. ⌜ r ≡ self .stripes ⌝ }
+        ensures bound { λ r. ⌜ r ≤ 64 ⌝ }
     {
         self.stripes
     }
@@ -56,6 +58,16 @@ impl SetUp {
         ensures { λ r. ⌜ r ≡ self .limit ⌝ }
     {
         self.limit
+    }
+
+    // The thread of this number, if the set-up has it.
+    pub fn thread(self, number: u32) -> Result<ThreadId, Refusal>
+        ensures { λ r. ⌜ thread-numbered r ≡ thread-or-refusal self number ⌝ }
+    {
+        match ThreadId::new(number) {
+            Some(thread) if number <= self.threads => Ok(thread),
+            _ => Err(Refusal::NoSuchThread),
+        }
     }
 }
 
