@@ -1,3 +1,4 @@
 pub mod Limits
+pub mod Logs
 pub mod Lookups
 pub mod SetUps

@@ -1,5 +1,6 @@
 ghost use mathlib.Core.Path.{_≡_};
 ghost use Rattle.layout.specs.Lookups.{first-with, Place};
+ghost use Rattle.std.specs.Finite.{nth};
 use crate::keyed::Keyed;
 
 // The place of the first entry with this key.
@@ -21,5 +22,16 @@ pub fn find<E: Keyed + Copy>(entries: &[E], key: u32) -> Option<E>
     match position(entries, key) {
         Some(i) => Some(entries[i]),
         None => None,
+    }
+}
+
+// The entry at this place.
+pub(crate) fn entry_at<E: Copy>(entries: &[E], place: usize) -> Option<E>
+    ensures { λ r. ⌜ r ≡ nth (now (entries .entry)) place ⌝ }
+{
+    if place < entries.len() {
+        Some(entries[place])
+    } else {
+        None
     }
 }
