@@ -3,13 +3,15 @@ use Prim.Native.Nat.{ℕ, _+_, _*_, _/_, _%_, _^_, _≤_, _<_}
 use lib.Bits.{bitAnd, bitOr}
 use lib.Dec.{eqb, leb}
 use mathlib.Core.Bool.{Bool, true, false, cond, _&&_}
+use mathlib.Core.Logic.{_⊎_, inl, inr}
 use mathlib.Core.Path.{_≡_, refl, sym, ap, _∙_}
 use native.Mathlib.Omega.{arith}
-use Rattle.layout.specs.LockWords.{owned, word-of, packed, fields-in, well-formed, unpacked}
+use Rattle.common.specs.declared.refusal.Refusal.the-variants.{LockWord as NoLockWord}
+use Rattle.layout.specs.LockWords.{owned, word-of, packed, fields-in, well-formed, unpacked, Never-written}
 use Rattle.layout.specs.declared.lock_word.LockWord.{LockWord}
 use Rattle.std.proofs.shelf.Bits.{and-mask, or-shifted}
-use Rattle.std.proofs.shelf.Tests.{and-parts, and-from, cond-true, eq-eqb, eqb-true, le-leb, leb-true}
-use Rattle.std.specs.declared.result.Result.the-variants.{Ok}
+use Rattle.std.proofs.shelf.Tests.{and-parts, and-from, both-ways, cases-bool, cond-true, cond-false, eq-eqb, eqb-true, le-leb, leb-true}
+use Rattle.std.specs.declared.result.Result.the-variants.{Ok, Err}
 
 -- bit 0 is a bit
 pub owned-bit : (o : ℕ) → owned o < 2
@@ -51,17 +53,36 @@ version-back v o h = omega (arith, owned-bit o)
 pub owned-back : (v o : ℕ) → v ≤ 2147483647 → word-of v o % 2 ≡ owned o
 owned-back v o h = omega (arith, owned-bit o)
 
--- what was written reads back
-pub reads-back : (v o : ℕ) → v ≤ 2147483647 → o ≤ 8 → unpacked (word-of v o) ≡ Ok (record { version = v; owner = o })
-reads-back v o h k =
-    cond-true (well-formed b) (Ok (fields-in b)) _
-    (and-from (leb (b / 2 ^ 32) 8) (eqb (b % 2) (owned (b / 2 ^ 32)))
+-- the bits of a word are well formed
+pub word-formed : (v o : ℕ) → v ≤ 2147483647 → o ≤ 8 → well-formed (word-of v o) ≡ true
+word-formed v o h k =
+    and-from (leb (b / 2 ^ 32) 8) (eqb (b % 2) (owned (b / 2 ^ 32)))
     (le-leb (b / 2 ^ 32) 8 (omega (arith, owner-back v o h)))
-    (eq-eqb (b % 2) (owned (b / 2 ^ 32)) (owned-back v o h ∙ ap owned (sym (owner-back v o h)))))
-    ∙ (λ i. Ok (record { version = version-back v o h i; owner = owner-back v o h i }))
+    (eq-eqb (b % 2) (owned (b / 2 ^ 32)) (owned-back v o h ∙ ap owned (sym (owner-back v o h))))
   where
     b : ℕ
     b = word-of v o
+
+-- what was written reads back
+pub reads-back : (v o : ℕ) → v ≤ 2147483647 → o ≤ 8 → unpacked (word-of v o) ≡ Ok (record { version = v; owner = o })
+reads-back v o h k =
+    cond-true (well-formed (word-of v o)) (Ok (fields-in (word-of v o))) _ (word-formed v o h k)
+    ∙ (λ i. Ok (record { version = version-back v o h i; owner = owner-back v o h i }))
+
+-- what is not well formed was never written
+pub never-written : (b : ℕ) → well-formed b ≡ false → Never-written b
+never-written b w v o = at (cases-bool (leb v 2147483647 && leb o 8))
+  where
+    at : ((leb v 2147483647 && leb o 8) ≡ true) ⊎ ((leb v 2147483647 && leb o 8) ≡ false) → packed v o ≡ Ok b → ⊥
+    at (inl t) e =
+        let p = and-parts (leb v 2147483647) (leb o 8) t in
+        let f = word-formed v o (leb-true v 2147483647 (p .0)) (leb-true o 8 (p .1)) in
+        let c = cond-true (leb v 2147483647 && leb o 8) (Ok (word-of v o)) (Err NoLockWord) t in
+        let s : word-of v o ≡ b = cc in
+        both-ways (well-formed b) w (ap well-formed (sym s) ∙ f)
+    at (inr t) e =
+        let c = cond-false (leb v 2147483647 && leb o 8) (Ok (word-of v o)) (Err NoLockWord) t in
+        let z : _≡_ {A = ℕ} 0 1 = cc in omega arith
 
 -- what was read writes back
 pub writes-back : (b : ℕ) → well-formed b ≡ true → packed (b % 2 ^ 32 / 2) (b / 2 ^ 32) ≡ Ok b

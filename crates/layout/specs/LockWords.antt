@@ -39,7 +39,11 @@ abbrev pub Reads-back : ℕ → ℕ → Result ℕ Refusal → Type 0
 Reads-back version owner (Ok b) = unpacked b ≡ Ok (record { version = version; owner = owner })
 Reads-back version owner (Err e) = Unit {0}
 
--- what was read writes back
+-- no version and owner are written as these bits
+abbrev pub Never-written : ℕ → Type 0
+Never-written b = (version owner : ℕ) → packed version owner ≡ Ok b → ⊥
+
+-- what was read writes back, and what is not read was never written
 abbrev pub Writes-back : ℕ → Result LockWord Refusal → Type 0
 Writes-back b (Ok w) = packed (w .version) (w .owner) ≡ Ok b
-Writes-back b (Err e) = Unit {0}
+Writes-back b (Err e) = Never-written b

@@ -1,7 +1,7 @@
-ghost use mathlib.Core.Bool.{true};
+ghost use mathlib.Core.Bool.{true, false};
 ghost use mathlib.Core.Path.{_≡_};
 ghost use Prim.Native.Nat.{_≤_};
-ghost use Rattle.layout.specs.LockWords.{word-of, packed, fields-in, well-formed, unpacked, owned, Reads-back, Writes-back};
+ghost use Rattle.layout.specs.LockWords.{word-of, packed, fields-in, well-formed, unpacked, owned, Never-written, Reads-back, Writes-back};
 ghost use Rattle.std.specs.declared.result.Result.the-variants.{Ok, Err};
 use common::refusal::Refusal;
 
@@ -36,7 +36,8 @@ pub fn unpack(bits: u64) -> Result<LockWord, Refusal>
 
 // Whether the bits say what a lock word can say.
 fn is_lock_word(bits: u64) -> bool
-    ensures { λ r. ⌜ r ≡ well-formed bits ⌝ }
+    ensures test { λ r. ⌜ r ≡ well-formed bits ⌝ }
+    ensures others { λ r. ⌜ (r ≡ false → Never-written bits) ⌝ }
 {
     let owner = bits >> 32;
     owner <= 8 && bits & 1 == owned_bit(owner)
