@@ -3,12 +3,13 @@ ghost use Prim.Native.Nat.{_≤_};
 ghost use lib.Dec.{eqb};
 ghost use lib.ListN.{length};
 ghost use Rattle.layout.specs.Logs.{logged};
-ghost use Rattle.layout.specs.Lookups.{first-with};
+ghost use Rattle.layout.specs.Lookups.{first-with, has-key};
 ghost use Rattle.std.specs.Finite.{nth};
 use super::Log;
 use crate::keyed::Keyed;
 use crate::lookup::entry_at;
 use crate::lookup::find;
+use crate::lookup::position;
 
 impl<E: Copy> Log<E> {
     // The logged entries, the oldest first.
@@ -50,6 +51,13 @@ impl<E: Copy> Log<E> {
 }
 
 impl<E: Keyed + Copy> Log<E> {
+    // Whether some entry has this key.
+    pub fn has(&self, key: u32) -> bool
+        ensures { λ r. ⌜ r ≡ has-key (E·Keyed .key) key (logged (now (self .entry))) ⌝ }
+    {
+        position(self.entries(), key).is_some()
+    }
+
     // The oldest entry with this key.
     pub fn find(&self, key: u32) -> Option<E>
         ensures { λ r. ⌜ r ≡ first-with (E·Keyed .key) key (logged (now (self .entry))) ⌝ }
