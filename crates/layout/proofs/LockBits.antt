@@ -30,6 +30,7 @@ joined-bits v o d h k e =
   where
     high : o * 2 ^ 32 % 2 ^ 64 ≡ o * 2 ^ 32
     high = omega arith
+
     low : v * 2 % 2 ^ 64 ≡ v * 2
     low = omega arith
 

@@ -29,10 +29,13 @@ found {E} key k es i x h e same p = (h, has, first, written)
   where
     r : drop i es ≡ x ∷ drop (i + 1) es
     r = rest es i x h e
+
     has : has-key key k es ≡ true
     has = sym (p .0) ∙ ap (has-key key k) r ∙ or-left (eqb (key x) k) (has-key key k (drop (i + 1) es)) (eq-eqb (key x) k same)
+
     first : (d : E) → Some (getD es i d) ≡ first-with key k es
     first d = ap Some (getD-default es i d x h ∙ sym e) ∙ sym (cond-true (eqb (key x) k) (Some x) (first-with key k (drop (i + 1) es)) (eq-eqb (key x) k same)) ∙ ap (first-with key k) (sym r) ∙ p .1
+
     written : (new : E) → key new ≡ k → set es i new ≡ replaced key new es
     written new n =
         set-split es i new h
@@ -47,10 +50,13 @@ passed-more {E} key k es i x h e other p = (has, first, written)
   where
     r : drop i es ≡ x ∷ drop (i + 1) es
     r = rest es i x h e
+
     has : has-key key k (drop (i + 1) es) ≡ has-key key k es
     has = ap (λ t. t || has-key key k (drop (i + 1) es)) (sym (ne-eqb (key x) k other)) ∙ ap (has-key key k) (sym r) ∙ p .0
+
     first : first-with key k (drop (i + 1) es) ≡ first-with key k es
     first = sym (cond-false (eqb (key x) k) (Some x) (first-with key k (drop (i + 1) es)) (ne-eqb (key x) k other)) ∙ ap (first-with key k) (sym r) ∙ p .1
+
     written : (new : E) → key new ≡ k → take (i + 1) es ++ replaced key new (drop (i + 1) es) ≡ replaced key new es
     written new n =
         ap (λ l. l ++ replaced key new (drop (i + 1) es)) (take-more es i x h ∙ ap (λ y. take i es ++ y ∷ []) (sym e))
@@ -65,8 +71,10 @@ passed-all {E} key k es i h p = (has, first, written)
   where
     has : has-key key k es ≡ false
     has = sym (p .0) ∙ ap (has-key key k) (drop-all i es h)
+
     first : None ≡ first-with key k es
     first = ap (first-with key k) (sym (drop-all i es h)) ∙ p .1
+
     written : (new : E) → key new ≡ k → es ≡ replaced key new es
     written new n =
         sym (append-nil es)

@@ -6,3 +6,5 @@ pub mod log;
 pub mod lookup;
 pub mod set_up;
 pub mod stripe_id;
+#[cfg(test)]
+mod tests;

@@ -2,8 +2,8 @@ ghost use mathlib.Core.Path.{_≡_};
 ghost use Prim.Native.Nat.{_%_};
 ghost use Rattle.layout.specs.SetUps.{stripe-of, stripe-numbered, stripe-or-refusal};
 use super::StripeId;
-use common::refusal::Refusal;
 use crate::set_up::SetUp;
+use common::refusal::Refusal;
 
 impl SetUp {
     // The stripe that guards this address.

@@ -5,6 +5,6 @@ use Rattle.layout.specs.LockWords.{packed}
 
 pub returns : need.returns
 returns c = record {
-    fields = masked-fields (c .args .bits);
-    writes-back = λ w. ap (λ f. packed (f .version) (f .owner)) (masked-fields (c .args .bits)) ∙ writes-back (c .args .bits) w
-  }
+  fields = masked-fields (c .args .bits);
+  writes-back = λ w. ap (λ f. packed (f .version) (f .owner)) (masked-fields (c .args .bits)) ∙ writes-back (c .args .bits) w;
+}
