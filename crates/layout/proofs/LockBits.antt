@@ -4,7 +4,7 @@ use lib.Bits.{bitAnd, bitOr}
 use lib.Dec.{eqb, leb}
 use mathlib.Core.Bool.{Bool, true, false, cond, _&&_}
 use mathlib.Core.Logic.{_⊎_, inl, inr}
-use mathlib.Core.Path.{_≡_, refl, sym, ap, _∙_}
+use mathlib.Core.Path.{_≡_, sym, ap, _∙_}
 use native.Mathlib.Omega.{arith}
 use Rattle.common.specs.declared.refusal.Refusal.the-variants.{LockWord as NoLockWord}
 use Rattle.layout.specs.LockWords.{owned, word-of, packed, fields-in, well-formed, unpacked, Never-written}

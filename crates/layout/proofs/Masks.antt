@@ -1,11 +1,10 @@
 -- A stripe count is a power of two, so the number one below it is a mask.
-use Prim.Native.Nat.{ℕ, _-_, _^_, _%_, _<_, _≤_}
+use Prim.Native.Nat.{ℕ, _-_, _^_, _%_}
 use lib.Bits.{bitAnd}
 use lib.Dec.{eqb}
-use mathlib.Core.Bool.{Bool, true, _||_}
-use mathlib.Core.Logic.{_⊎_, inl, inr, ⊎-elim}
-use mathlib.Core.Path.{_≡_, refl, sym, _∙_, ap, subst}
-use native.Mathlib.Omega.{arith}
+use mathlib.Core.Bool.{Bool, true}
+use mathlib.Core.Logic.{_⊎_, inl, inr}
+use mathlib.Core.Path.{_≡_, sym, subst}
 use Rattle.layout.specs.Limits.{stripe-count}
 use Rattle.std.proofs.shelf.Bits.{and-mask}
 use Rattle.std.proofs.shelf.Tests.{or-cases, eqb-true}

@@ -2,7 +2,7 @@ ghost use mathlib.Core.Bool.{true, false};
 ghost use mathlib.Core.Path.{_≡_};
 ghost use Prim.Native.Nat.{_≤_};
 ghost use Rattle.layout.specs.LockWords.{word-of, packed, fields-in, well-formed, unpacked, owned, Never-written, Reads-back, Writes-back};
-ghost use Rattle.std.specs.declared.result.Result.the-variants.{Ok, Err};
+ghost use Rattle.std.specs.declared.result.Result.the-variants.{Ok};
 use common::refusal::Refusal;
 
 // What the lock word of a stripe says: the stripe's version, and its owner, 1 to 8 or 0 for none.

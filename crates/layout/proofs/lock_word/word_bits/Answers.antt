@@ -1,4 +1,4 @@
-use mathlib.Core.Path.{_≡_, ap, _∙_}
+use mathlib.Core.Path.{ap, _∙_}
 use Rattle.layout.proofs.LockBits.{joined-bits, reads-back}
 use Rattle.layout.proofs.lock_word.word_bits.Needs as need
 use Rattle.layout.specs.LockWords.{unpacked}
