@@ -1,0 +1,5 @@
+pub mod Limits
+pub mod LockWords
+pub mod Logs
+pub mod Lookups
+pub mod SetUps
