@@ -13,7 +13,7 @@ pub data Event : Type 0 where
   -- the thread sealed
   seal-of : ℕ → Event
 
--- a policy after these events, told oldest first
+-- a policy after these events, the newest first
 abbrev pub after-events : {P : Type 0} → (P → Event → P) → P → List Event → P
 after-events moved p [] = p
-after-events moved p (e ∷ es) = after-events moved (moved p e) es
+after-events moved p (e ∷ es) = moved (after-events moved p es) e
