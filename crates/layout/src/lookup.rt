@@ -1,6 +1,9 @@
+ghost use Prim.Native.Nat.{_<_};
+ghost use lib.ListN.{length};
 ghost use mathlib.Core.Path.{_≡_};
 ghost use Rattle.layout.specs.Lookups.{first-with, Place};
 ghost use Rattle.std.specs.Finite.{nth};
+ghost use Rattle.std.specs.Slices.{found};
 use crate::keyed::Keyed;
 
 // The place of the first entry with this key.
@@ -27,7 +30,8 @@ pub fn find<E: Keyed + Copy>(entries: &[E], key: u32) -> Option<E>
 
 // The entry at this place.
 pub(crate) fn entry_at<E: Copy>(entries: &[E], place: usize) -> Option<E>
-    ensures { λ r. ⌜ r ≡ nth (now (entries .entry)) place ⌝ }
+    ensures entry { λ r. ⌜ r ≡ nth (now (entries .entry)) place ⌝ }
+    ensures bound { λ r. ⌜ found r (λ _. place < length (now (entries .entry))) ⌝ }
 {
     if place < entries.len() {
         Some(entries[place])

@@ -63,7 +63,7 @@ fn a_full_log() -> Result<(), Fail> {
         }),
     )?;
     check_eq(log.len(), 32)?;
-    check(!log.has(40))?;
+    check(log.find(40).is_none())?;
     log.replace(WriteEntry {
         address: 31,
         word: 7,
@@ -91,7 +91,7 @@ fn the_first_match_counts() -> Result<(), Fail> {
     log.replace(ReadEntry { stripe, version: 3 });
     check_eq(version(log.find(5)), 3)?;
     check_eq(version(log.get(1)), 2)?;
-    check(!log.has(6))
+    check(log.find(6).is_none())
 }
 
 #[test]
