@@ -1,0 +1,15 @@
+pub mod Admission
+pub mod Answers
+pub mod Begin
+pub mod Back
+pub mod Conflicts
+pub mod Drain
+pub mod Endings
+pub mod Load
+pub mod Maps
+pub mod NewEngine
+pub mod Outcomes
+pub mod Peek
+pub mod Seal
+pub mod States
+pub mod Store

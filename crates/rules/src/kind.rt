@@ -1,0 +1,25 @@
+ghost use mathlib.Core.Path.{_≡_};
+ghost use Rattle.rules.specs.Admission.{tells-loss};
+
+// The calls on a thread, by kind.
+#[derive(Clone, Copy)]
+pub enum Kind {
+    Begin,
+    Load,
+    Store,
+    Seal,
+    Drain,
+    Back,
+}
+
+impl Kind {
+    // Whether a call of this kind tells a lost transaction that it is lost.
+    pub fn tells_loss(self) -> bool
+        ensures { λ r. ⌜ r ≡ tells-loss self ⌝ }
+    {
+        match self {
+            Kind::Load | Kind::Store | Kind::Seal => true,
+            Kind::Begin | Kind::Drain | Kind::Back => false,
+        }
+    }
+}
