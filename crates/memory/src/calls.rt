@@ -1,0 +1,9 @@
+mod back;
+mod begin;
+mod contend;
+mod drain;
+mod load;
+mod new;
+mod peek;
+mod seal;
+mod store;

@@ -1,0 +1,8 @@
+use crate::engine::Engine;
+
+// Words in a store, shared by threads in transactions; a policy decides who wins where two of them meet.
+pub struct Memory<S, P> {
+    pub(crate) engine: Engine,
+    pub(crate) words: S,
+    pub(crate) policy: P,
+}
