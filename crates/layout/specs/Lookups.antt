@@ -2,7 +2,7 @@
 use Prim.Native.Nat.{ℕ, _<_}
 use lib.Dec.{eqb}
 use lib.ListN.{length, getD, set}
-use mathlib.Core.Bool.{cond}
+use mathlib.Core.Bool.{Bool, false, cond, _||_}
 use mathlib.Core.List.{List, [], _∷_}
 use mathlib.Core.Path.{_≡_}
 use Rattle.std.specs.declared.option.Option.{Option}
@@ -12,6 +12,11 @@ use Rattle.std.specs.declared.option.Option.the-variants.{Some, None}
 abbrev pub first-with : {E : Type 0} → (E → ℕ) → ℕ → List E → Option E
 first-with key k [] = None
 first-with key k (e ∷ es) = cond (eqb (key e) k) (Some e) (first-with key k es)
+
+-- whether some entry has a key
+abbrev pub has-key : {E : Type 0} → (E → ℕ) → ℕ → List E → Bool
+has-key key k [] = false
+has-key key k (e ∷ es) = eqb (key e) k || has-key key k es
 
 -- the first entry with the key of the new one gives way to it
 abbrev pub replaced : {E : Type 0} → (E → ℕ) → E → List E → List E
