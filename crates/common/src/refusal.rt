@@ -28,6 +28,10 @@ pub enum Refusal {
     LogFull = 16,
     // Another thread has sealed the stripe and has not drained it yet.
     StripeBusy = 17,
+    // A roll while the roll mark is off.
+    RollNotDue = 18,
+    // A roll while a thread is not idle.
+    ThreadsActive = 19,
 }
 
 impl Refusal {

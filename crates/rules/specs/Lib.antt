@@ -1,6 +1,7 @@
 pub mod Admission
 pub mod Answers
 pub mod Begin
+pub mod Calls
 pub mod Back
 pub mod Conflicts
 pub mod Drain
@@ -10,6 +11,7 @@ pub mod Maps
 pub mod NewEngine
 pub mod Outcomes
 pub mod Peek
+pub mod Roll
 pub mod Seal
 pub mod States
 pub mod Store

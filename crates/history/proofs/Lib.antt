@@ -1,0 +1,13 @@
+pub mod Fronts
+pub mod Growth
+pub mod Induction
+pub mod Invariant
+pub mod Keys
+pub mod Lines
+pub mod Maps
+pub mod NewEngine
+pub mod Phases
+pub mod Plan
+pub mod Quiet
+pub mod Refusals
+pub mod Seats

@@ -1,0 +1,23 @@
+-- What stands in a table after an edit.
+use Prim.Native.Nat.{ℕ}
+use lib.Dec.{eqb}
+use mathlib.Core.Bool.{true, false, cond}
+use mathlib.Core.Path.{_≡_, refl, ap}
+use Rattle.rules.specs.Maps.{Map, at, put, each, everywhere}
+use Rattle.std.proofs.shelf.Tests.{eq-eqb, ne-eqb, cond-true, cond-false}
+
+pub at-put-same : {A : Type 0} (m : Map A) (n : ℕ) (x : A) → at (put m n x) n ≡ x
+unfolding at put
+at-put-same m n x = cond-true (eqb n n) x (m .fun n) (eq-eqb n n refl)
+
+pub at-put-other : {A : Type 0} (m : Map A) (n k : ℕ) (x : A) → (k ≡ n → ⊥) → at (put m n x) k ≡ at m k
+unfolding at put
+at-put-other m n k x d = cond-false (eqb k n) x (m .fun k) (ne-eqb k n d)
+
+pub at-each : {A : Type 0} (f : A → A) (m : Map A) (n : ℕ) → at (each f m) n ≡ f (at m n)
+unfolding at each
+at-each f m n = refl
+
+pub at-everywhere : {A : Type 0} (x : A) (n : ℕ) → at (everywhere x) n ≡ x
+unfolding at everywhere
+at-everywhere x n = refl

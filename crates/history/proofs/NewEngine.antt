@@ -1,0 +1,56 @@
+-- A new engine fits a history with no line.
+use Prim.Native.Nat.{ℕ, _<_}
+use lib.ListN.{length}
+use mathlib.Core.List.{List, []}
+use mathlib.Core.Path.{_≡_, refl, ap, sym, subst, _∙_, fun-ext}
+use native.Mathlib.Omega.{arith}
+use Rattle.history.proofs.Invariant.{Fits, Front, Stripe-fits, Word-fits, Seat, front, hold-of}
+use Rattle.history.proofs.Maps.{at-everywhere}
+use Rattle.history.proofs.Plan.{New-fits}
+use Rattle.history.specs.Law.{Point}
+use Rattle.history.specs.Record.{no-history, newborn, no-work}
+use Rattle.layout.specs.declared.set_up.SetUp.{SetUp}
+use Rattle.rules.specs.Conflicts.{owner-of}
+use Rattle.rules.specs.NewEngine.{new-world, new-engine, new-thread, new-stripe}
+use Rattle.rules.specs.States.{Thread, Stripe, thread-of, stripe-at}
+use Rattle.std.specs.declared.option.Option.the-variants.{Some, None}
+
+abbrev new-front : Front
+new-front = record { version = 0; hold = None }
+
+new-fronts : (u : SetUp) (s : ℕ) → front (new-engine u) s ≡ new-front
+new-fronts u s = λ i. record {
+  version = ap (λ (x : Stripe). x .version) (at-everywhere new-stripe s) i;
+  hold = ap hold-of (at-everywhere new-thread (owner-of (new-engine u) s)) i;
+}
+
+new-owner : (u : SetUp) (s : ℕ) → owner-of (new-engine u) s ≡ 0
+new-owner u s = ap (λ (x : Stripe). x .owner) (at-everywhere new-stripe s)
+
+new-seat : (u : SetUp) (ws : List ℕ) (n : ℕ) →
+    Seat u ws [] 0 (front (new-engine u)) (owner-of (new-engine u)) n new-thread (newborn n 0)
+new-seat u ws n = record {
+  named = refl;
+  inside = λ e. refl;
+  phase = λ s e. sym e ∙ new-owner u s;
+  point = record { moment = 0; since-begin = omega arith; by-last-load = omega arith; so-far = omega arith; loads = refl };
+  spared = tt;
+}
+
+pub new-fits : New-fits
+new-fits u ws = record {
+  stored = refl;
+  sized = refl;
+  count = refl;
+  stripes = λ s.
+      subst (λ (f : Front). Stripe-fits u [] 0 0 s f) (sym (new-fronts u s))
+      (record { rises = omega arith; by-clock = omega arith; untouched = λ k low high. absurd (omega arith) });
+  words = λ a l. subst (λ (fs : ℕ → Front). Word-fits u ws [] ws fs a) (sym (fun-ext (new-fronts u))) refl;
+  seats = λ n.
+      subst (λ (t : Thread). Seat u ws [] 0 (front (new-engine u)) (owner-of (new-engine u)) n t (newborn n 0))
+      (sym (at-everywhere new-thread n)) (new-seat u ws n);
+  spent = λ k l. absurd (omega arith);
+  loads = λ k l. absurd (omega arith);
+  past-points = tt;
+  past-spared = tt;
+}

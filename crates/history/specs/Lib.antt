@@ -1,0 +1,4 @@
+pub mod Law
+pub mod Record
+pub mod Runs
+pub mod Serial
