@@ -6,7 +6,7 @@ mod admission;
 mod conflicts;
 mod edits;
 
-// The clock, the roll mark, and the tables of stripes and threads.
+// The set-up, the clock, the roll mark, and the tables of stripes and threads.
 #[derive(Drop)]
 pub struct Engine {
     pub(crate) set_up: SetUp,
