@@ -10,7 +10,7 @@ pub enum Loss {
     Invalid { stripe: u32 },
     // The clock has reached its limit.
     ClockSpent,
-    // This thread took the stripe while the transaction held it.
+    // This thread won over the transaction at a stripe that it held.
     Stolen { thief: u32 },
 }
 

@@ -7,13 +7,6 @@ use common::thread_id::ThreadId;
 #[derive(Clone, Copy)]
 pub struct Aggressive;
 
-impl Aggressive {
-    // The policy; it keeps no counts.
-    pub fn new() -> Aggressive {
-        Aggressive
-    }
-}
-
 pub impl Policy for Aggressive as AggressivePolicy {
     const LOAD_POINTS: u32 = 0;
 

@@ -7,13 +7,6 @@ use common::thread_id::ThreadId;
 #[derive(Clone, Copy)]
 pub struct Suicide;
 
-impl Suicide {
-    // The policy; it keeps no counts.
-    pub fn new() -> Suicide {
-        Suicide
-    }
-}
-
 pub impl Policy for Suicide as SuicidePolicy {
     const LOAD_POINTS: u32 = 0;
 

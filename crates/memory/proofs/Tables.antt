@@ -81,18 +81,18 @@ each-listed : {A : Type 0} (f : A → A) (d : A) → f d ≡ d → (xs : List A)
 unfolding each listed
 each-listed f d e xs = λ i. record { fun = λ k. getD-each f d e xs k i }
 
--- a thread releases all its stripes
-pub release-stripes : (n : ℕ) (v : Option ℕ) (xs ys : List StripeCell) →
-    1 ≤ n →
-    map stripe-view ys ≡ map (freed n v) (map stripe-view xs) →
-    stripe-table ys ≡ each (freed n v) (stripe-table xs)
+-- all stripes moved in their places, where a stripe that is not there stays
+pub move-stripes : (f : Stripe → Stripe) (xs ys : List StripeCell) →
+    f new-stripe ≡ new-stripe →
+    map stripe-view ys ≡ map f (map stripe-view xs) → stripe-table ys ≡ each f (stripe-table xs)
 unfolding stripe-table
-release-stripes n v xs ys some same =
+move-stripes f xs ys none same = ap (listed new-stripe) same ∙ each-listed f new-stripe none (map stripe-view xs)
+
+-- a stripe without owner is no stripe of a thread
+pub freed-none : (n : ℕ) (v : Option ℕ) → 1 ≤ n → freed n v new-stripe ≡ new-stripe
+freed-none n v some =
     let apart : eqb 0 n ≡ false = ne-eqb 0 n (λ e. omega arith) in
-    ap (listed new-stripe) same ∙
-    each-listed (freed n v) new-stripe
-    (ap (λ b. cond b (record { version = valueOr v 0; owner = 0 }) new-stripe) apart)
-    (map stripe-view xs)
+    ap (λ b. cond b (record { version = valueOr v 0; owner = 0 }) new-stripe) apart
 
 map-replicate : {A B : Type 0} (f : A → B) (k : ℕ) (x : A) → map f (replicate k x) ≡ replicate k (f x)
 map-replicate f zero x = refl

@@ -5,5 +5,7 @@ mod drain;
 mod load;
 mod new;
 mod peek;
+mod perform;
+mod roll;
 mod seal;
 mod store;

@@ -5,8 +5,9 @@ use layout::set_up::SetUp;
 mod admission;
 mod conflicts;
 mod edits;
+mod roll;
 
-// The clock, the roll mark, and the tables of stripes and threads.
+// The set-up, the clock, the roll mark, and the tables of stripes and threads.
 #[derive(Drop)]
 pub struct Engine {
     pub(crate) set_up: SetUp,

@@ -12,11 +12,15 @@ use Rattle.rules.specs.declared.call.Call.{Call}
 use Rattle.rules.specs.declared.call.Call.the-variants.{Begin, Load, Store, Seal, Drain, Back, Roll}
 
 -- the call by its own rule, with the policy's table at its start
+abbrev pub performed : Table → World → Call → Outcome
+performed beats w (Begin n) = begin w n
+performed beats w (Load n a) = load beats w n a
+performed beats w (Store n a v) = store beats w n a v
+performed beats w (Seal n) = seal w n
+performed beats w (Drain n) = drain w n
+performed beats w (Back n) = back w n
+performed beats w Roll = roll w
+
+-- the same, kept shut: what is said of whole runs does not look at single rules
 unfoldable pub perform : Table → World → Call → Outcome
-perform beats w (Begin n) = begin w n
-perform beats w (Load n a) = load beats w n a
-perform beats w (Store n a v) = store beats w n a v
-perform beats w (Seal n) = seal w n
-perform beats w (Drain n) = drain w n
-perform beats w (Back n) = back w n
-perform beats w Roll = roll w
+perform beats w c = performed beats w c

@@ -1,5 +1,5 @@
 -- Tables by number, as threads and stripes have them. The operations stay shut: what a call leaves is
--- stated by them, and only proofs about whole runs look inside.
+-- stated by them, and only lemmas about tables look inside.
 use Prim.Native.Nat.{ℕ}
 use lib.Dec.{eqb}
 use mathlib.Core.Bool.{cond}

@@ -1,9 +1,11 @@
 ghost use mathlib.Core.Path.{_≡_};
 ghost use Rattle.rules.specs.Endings.{ending-cause, ending-detail};
 use common::loss::Loss;
+use common::loss::LossDebug;
+use common::loss::LossPartialEq;
 
 // How a sealed transaction stands.
-#[derive(Clone, Copy)]
+#[derive(Clone, Copy, PartialEq, Eq, Debug)]
 pub enum Sealed {
     // It stored nothing: it read the words of this moment, and its thread is idle again.
     Reader { snapshot: u32 },
@@ -12,7 +14,7 @@ pub enum Sealed {
 }
 
 // How the transaction ended that a thread went back from.
-#[derive(Clone, Copy)]
+#[derive(Clone, Copy, PartialEq, Eq, Debug)]
 pub enum Ending {
     // The thread gave it up.
     GivenUp,

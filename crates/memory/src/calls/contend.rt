@@ -16,27 +16,16 @@ impl<S, P: Policy> Memory<S, P> {
         ensures stripes_kept { λ _. ⌜ now (self .exit) .engine .stripes ≡ now (self .entry) .engine .stripes ⌝ }
         ensures words_kept { λ _. ⌜ now (self .exit) .words ≡ now (self .entry) .words ⌝ }
     {
-        let Some(holder) = self.engine.rival(thread, owner) else {
+        let Some(rival) = self.engine.rival(thread, owner) else {
             return Ok(());
         };
-        if self.policy.beats(thread, holder) {
-            self.engine.lose(
-                holder,
-                Loss::Stolen {
-                    thief: thread.number(),
-                },
-            );
-            self.policy.won(thread, holder);
-            Ok(())
-        } else {
-            Err(
-                self.engine.lose(
-                    thread,
-                    Loss::Beaten {
-                        holder: holder.number(),
-                    },
-                ),
-            )
+        if !self.policy.beats(thread, rival) {
+            let holder = rival.number();
+            return Err(self.engine.lose(thread, Loss::Beaten { holder }));
         }
+        let thief = thread.number();
+        self.engine.lose(rival, Loss::Stolen { thief });
+        self.policy.won(thread, rival);
+        Ok(())
     }
 }

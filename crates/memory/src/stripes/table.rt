@@ -3,6 +3,7 @@ ghost use mathlib.Core.Path.{_≡_};
 ghost use Rattle.memory.specs.Views.{stripe-table, stripe-view, owner-number};
 ghost use Rattle.rules.specs.Drain.{freed};
 ghost use Rattle.rules.specs.Maps.{at, put, each, everywhere};
+ghost use Rattle.rules.specs.Roll.{rolled-stripe};
 ghost use Rattle.rules.specs.NewEngine.{new-stripe};
 use super::Stripe;
 use super::Stripes;
@@ -44,6 +45,15 @@ impl Stripe {
     }
 }
 
+impl Stripe {
+    // Has version 0, and the owner that it had.
+    fn roll(&mut self)
+        ensures { λ _. ⌜ stripe-view (now (self .exit)) ≡ rolled-stripe (stripe-view (now (self .entry))) ⌝ }
+    {
+        self.version = 0;
+    }
+}
+
 impl Stripes {
     // All stripes at version 0, without owners.
     pub(crate) fn new() -> Stripes
@@ -80,6 +90,16 @@ impl Stripes {
         let all = &mut self.all;
         for stripe in all.iter_mut() {
             stripe.release(thread, version);
+        }
+    }
+
+    // Sets all versions to 0.
+    pub(crate) fn roll(&mut self)
+        ensures { λ _. ⌜ stripe-table (now (self .exit) .all) ≡ each rolled-stripe (stripe-table (now (self .entry) .all)) ⌝ }
+    {
+        let all = &mut self.all;
+        for stripe in all.iter_mut() {
+            stripe.roll();
         }
     }
 }
