@@ -11,3 +11,4 @@ pub mod Plan
 pub mod Quiet
 pub mod Refusals
 pub mod Seats
+pub mod Turns

@@ -2,3 +2,4 @@ pub mod Law
 pub mod Record
 pub mod Runs
 pub mod Serial
+pub mod Turns

@@ -1,4 +1,3 @@
-// What whole runs of calls promise, as read off their records (in specs/).
-pub mod placeholder {
-    pub struct Placeholder(pub u32);
-}
+// Whole runs of calls: what they answer and leave, and the law that they keep.
+pub mod run;
+pub mod turn;
