@@ -3,6 +3,7 @@ pub mod Growth
 pub mod Induction
 pub mod Invariant
 pub mod Keys
+pub mod Leaders
 pub mod Lines
 pub mod Maps
 pub mod NewEngine
