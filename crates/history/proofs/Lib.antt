@@ -5,6 +5,7 @@ pub mod Invariant
 pub mod Keys
 pub mod Leaders
 pub mod Lines
+pub mod Losses
 pub mod Maps
 pub mod NewEngine
 pub mod Phases
