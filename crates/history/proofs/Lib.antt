@@ -1,3 +1,4 @@
+pub mod Alone
 pub mod Fronts
 pub mod Growth
 pub mod Induction
