@@ -1,4 +1,5 @@
 pub mod Alone
+pub mod Begin
 pub mod Fronts
 pub mod Growth
 pub mod Induction
