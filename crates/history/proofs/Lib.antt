@@ -14,4 +14,5 @@ pub mod Phases
 pub mod Plan
 pub mod Quiet
 pub mod Refusals
+pub mod Releases
 pub mod Seats
