@@ -1,4 +1,5 @@
 pub mod Alone
+pub mod Back
 pub mod Begin
 pub mod Fronts
 pub mod Growth
