@@ -3,6 +3,7 @@ pub mod Back
 pub mod Begin
 pub mod Fronts
 pub mod Growth
+pub mod Holds
 pub mod Induction
 pub mod Invariant
 pub mod Keys
@@ -16,4 +17,6 @@ pub mod Plan
 pub mod Quiet
 pub mod Refusals
 pub mod Releases
+pub mod Rests
 pub mod Seats
+pub mod Undrained
