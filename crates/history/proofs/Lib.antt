@@ -18,5 +18,6 @@ pub mod Quiet
 pub mod Refusals
 pub mod Releases
 pub mod Rests
+pub mod Roll
 pub mod Seats
 pub mod Undrained
