@@ -12,7 +12,7 @@ use Rattle.common.specs.declared.refusal.Refusal.{Refusal}
 use Rattle.history.proofs.Alone.{alone-keeps-owners, alone-holds}
 use Rattle.history.proofs.Fronts.{hold-none}
 use Rattle.history.proofs.Growth.{grows-none}
-use Rattle.history.proofs.Invariant.{Fits, Phase-fits, Seat, front, hold-of}
+use Rattle.history.proofs.Invariant.{Fits, Lost-fits, Phase-fits, Seat, front, hold-of}
 use Rattle.history.proofs.Lines.{fallen-before}
 use Rattle.history.proofs.Maps.{at-put-same, at-put-other}
 use Rattle.history.proofs.Phases.{admitted-parts, fits-lost, fits-running}
@@ -89,15 +89,18 @@ module _ (ws : List ℕ) (base : ℕ) (w : World) (h : History) (n : ℕ) (f : F
     told = λ m x p. ap (λ (q : Phase). fallen m x (or-else (ended-loss (ending-of q)) None)) e;
   }
   leaves (inr x) =
-      let lost = fits-lost (w .engine .set-up) ws (h .updaters) base (front (w .engine)) (owner-of (w .engine)) n (thread-of (w .engine) n)
-          (h .present n .work) (h .present n .fall) (thread-of (w .engine) n .phase) (x .0) (x .1) (f .seats n .phase) in
       record {
-        unnumbered = lost .unnumbered;
+        unnumbered = fits .unnumbered;
         free = hold-none (thread-of (w .engine) n) (Lost (x .0)) (x .1) refl;
         told = λ m y p.
             ap (λ (q : Phase). fallen m y (or-else (ended-loss (ending-of q)) None)) (x .1)
-            ∙ fallen-before m y (Some (x .0)) (lost .fall) (p ∙ lost .fallen);
+            ∙ fallen-before m y (Some (x .0)) (fits .fall) (p ∙ fits .fallen);
       }
+    where
+      fits : Lost-fits (h .present n .work) (h .present n .fall)
+      fits =
+          fits-lost (w .engine .set-up) ws (h .updaters) base (front (w .engine)) (owner-of (w .engine)) n (thread-of (w .engine) n)
+          (h .present n .work) (h .present n .fall) (thread-of (w .engine) n .phase) (x .0) (x .1) (f .seats n .phase)
 
 module _ (ws : List ℕ) (base : ℕ) (w : World) (h : History) (beats : Table) (n : ℕ) (f : Fits ws base w h)
     (x : Leaves (h .present n .work) (h .present n .fall) (thread-of (w .engine) n)) where
@@ -106,6 +109,10 @@ module _ (ws : List ℕ) (base : ℕ) (w : World) (h : History) (beats : Table) 
 
   abbrev back-threads : Map Thread
   back-threads = put (w .engine .threads) n (with-phase (thread-of (w .engine) n) Idle)
+
+  -- a thread's seat when the stripes are let go
+  abbrev Back-seat : ℕ → Thread → Transaction → Type 0
+  Back-seat k t y = Seat (w .engine .set-up) ws (h .updaters) base (front (w .engine)) (owner-of back-state) k t y
 
   back-others : (k : ℕ) → (k ≡ n → ⊥) → at back-threads k ≡ thread-of (w .engine) k
   back-others k d = at-put-other (w .engine .threads) n k (with-phase (thread-of (w .engine) n) Idle) d
@@ -144,7 +151,7 @@ module _ (ws : List ℕ) (base : ℕ) (w : World) (h : History) (beats : Table) 
 
   -- another thread owns what it owned; the thread of no owner has nothing to say
   back-rest : (k : ℕ) → (k ≡ n → ⊥) →
-      Seat (w .engine .set-up) ws (h .updaters) base (front (w .engine)) (owner-of back-state) k (thread-of (w .engine) k) (h .present k)
+      Back-seat k (thread-of (w .engine) k) (h .present k)
   back-rest k d = go (cases-eq k 0)
     where
       apart : (k ≡ 0 → ⊥) → Apart (w .engine .set-up) ws (h .updaters) (h .updaters) (front (w .engine)) (front (w .engine)) (owner-of (w .engine)) (owner-of back-state) k
@@ -161,7 +168,7 @@ module _ (ws : List ℕ) (base : ℕ) (w : World) (h : History) (beats : Table) 
       idle z = subst (λ (j : ℕ). thread-of (w .engine) j .phase ≡ Idle) (sym z) no-owner-idle
 
       go : (k ≡ 0) ⊎ (k ≡ 0 → ⊥) →
-          Seat (w .engine .set-up) ws (h .updaters) base (front (w .engine)) (owner-of back-state) k (thread-of (w .engine) k) (h .present k)
+          Back-seat k (thread-of (w .engine) k) (h .present k)
       go (inl z) = record {
         named = f .seats k .named;
         inside = f .seats k .inside;
@@ -180,7 +187,7 @@ module _ (ws : List ℕ) (base : ℕ) (w : World) (h : History) (beats : Table) 
   went-back =
       with-work (watched (leads beats n (w .engine .set-up .threads)) (h .present n)) (called (Back n) (h .present n .work))
 
-  back-own : Seat (w .engine .set-up) ws (h .updaters) base (front (w .engine)) (owner-of back-state) n (with-phase (thread-of (w .engine) n) Idle) went-back
+  back-own : Back-seat n (with-phase (thread-of (w .engine) n) Idle) went-back
   back-own = record {
     named = f .seats n .named;
     inside = λ e. refl;
@@ -189,13 +196,13 @@ module _ (ws : List ℕ) (base : ℕ) (w : World) (h : History) (beats : Table) 
     spared = spared-called (w .engine .set-up) (h .updaters) (Back n) (h .present n .work) (h .present n .fall) (f .seats n .spared);
   }
 
-  back-seat : Seat (w .engine .set-up) ws (h .updaters) base (front (w .engine)) (owner-of back-state) n (at back-threads n)
+  back-seat : Back-seat n (at back-threads n)
       (fallen (length (h .updaters)) went-back (or-else (ended-loss (ending-of (thread-of (w .engine) n .phase))) (loss-in (at back-threads n .phase))))
   back-seat =
-      subst (λ (t : Thread). Seat (w .engine .set-up) ws (h .updaters) base (front (w .engine)) (owner-of back-state) n t
+      subst (λ (t : Thread). Back-seat n t
       (fallen (length (h .updaters)) went-back (or-else (ended-loss (ending-of (thread-of (w .engine) n .phase))) (loss-in (t .phase)))))
       (sym back-caller)
-      (subst (λ (y : Transaction). Seat (w .engine .set-up) ws (h .updaters) base (front (w .engine)) (owner-of back-state) n (with-phase (thread-of (w .engine) n) Idle) y)
+      (subst (λ (y : Transaction). Back-seat n (with-phase (thread-of (w .engine) n) Idle) y)
       (sym (x .told (length (h .updaters)) went-back refl)) back-own)
 
   back-leaves : Kept ws base w h beats (Back n) (back-admitted w n (Ok tt))

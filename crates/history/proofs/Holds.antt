@@ -46,8 +46,12 @@ false-if-never true e = absurd (e refl)
 false-if-never false e = refl
 
 module _ (ws : List ℕ) (base : ℕ) (w : World) (h : History) (f : Fits ws base w h) where
-  sealed-seat : (n k d : ℕ) → thread-of (w .engine) n .phase ≡ Sealed k d →
+  abbrev Sealed-seat : ℕ → ℕ → ℕ → Type 0
+  Sealed-seat n k d =
       Sealed-fits (w .engine .set-up) (h .updaters) base (owner-of (w .engine)) n k d (thread-of (w .engine) n) (h .present n .work) (h .present n .fall)
+
+  sealed-seat : (n k d : ℕ) → thread-of (w .engine) n .phase ≡ Sealed k d →
+      Sealed-seat n k d
   sealed-seat n k d e =
       fits-sealed (w .engine .set-up) ws (h .updaters) base (front (w .engine)) (owner-of (w .engine)) n (thread-of (w .engine) n)
       (h .present n .work) (h .present n .fall) (thread-of (w .engine) n .phase) k d e (f .seats n .phase)
@@ -60,7 +64,7 @@ module _ (ws : List ℕ) (base : ℕ) (w : World) (h : History) (f : Fits ws bas
       ∙ ap (λ (es : List WriteEntry). drop (drain-count (h .present n .work .calls)) es) (x .log)
       ∙ ap not-drained (sym (x .same))
     where
-      x : Sealed-fits (w .engine .set-up) (h .updaters) base (owner-of (w .engine)) n k d (thread-of (w .engine) n) (h .present n .work) (h .present n .fall)
+      x : Sealed-seat n k d
       x = sealed-seat n k d e
 
   -- an updater that has to drain to an address is the owner's of its stripe
@@ -82,17 +86,21 @@ module _ (ws : List ℕ) (base : ℕ) (w : World) (h : History) (f : Fits ws bas
   abbrev owner-at : ℕ → ℕ
   owner-at a = owner-of (w .engine) (stripe-of (w .engine .set-up) a)
 
-  -- at an address of a stripe that a sealed thread holds, its undrained entries alone count
-  held-word : (a k d : ℕ) → a < length (w .words) → thread-of (w .engine) (owner-at a) .phase ≡ Sealed k d →
+  -- at this address the undrained entries of all updaters come to those of the stripe's holder
+  abbrev Holder-drains : ℕ → Type 0
+  Holder-drains a =
       getD (put-in (w .words) (all-not-drained (h .updaters))) a 0
       ≡ getD (put-in (w .words) (left-in (front (w .engine) (stripe-of (w .engine .set-up) a)))) a 0
+
+  -- at an address of a stripe that a sealed thread holds, its undrained entries alone count
+  held-word : (a k d : ℕ) → a < length (w .words) → thread-of (w .engine) (owner-at a) .phase ≡ Sealed k d → Holder-drains a
   held-word a k d l e =
       one-undrained (w .words) (h .updaters) (x .place) a l
       (λ i m n. false-if-never (has-address a (not-drained (updater (h .updaters) i))) (λ t. n (same-place i (drains-own a i m t)))) (x .so-far)
       ∙ ap (λ (es : List WriteEntry). getD (put-in (w .words) es) a 0)
       (sym (ap (λ (p : Phase). left-of (hold-in (thread-of (w .engine) (owner-at a) .writes) p)) e ∙ left-undrained (owner-at a) k d e))
     where
-      x : Sealed-fits (w .engine .set-up) (h .updaters) base (owner-of (w .engine)) (owner-at a) k d (thread-of (w .engine) (owner-at a)) (h .present (owner-at a) .work) (h .present (owner-at a) .fall)
+      x : Sealed-seat (owner-at a) k d
       x = sealed-seat (owner-at a) k d e
 
       same-place : (i : ℕ) → (y : Draining (w .engine) h i) × (owner-at a ≡ y .thread) → i ≡ x .place
@@ -101,9 +109,7 @@ module _ (ws : List ℕ) (base : ℕ) (w : World) (h : History) (f : Fits ws bas
           (ap (λ (n : ℕ). h .present n .work .number) (y .1) ∙ y .0 .numbered) (x .numbered)
 
   -- at an address of any other stripe nothing is left to drain
-  free-word : (a : ℕ) → hold-of (thread-of (w .engine) (owner-at a)) ≡ None →
-      getD (put-in (w .words) (all-not-drained (h .updaters))) a 0
-      ≡ getD (put-in (w .words) (left-in (front (w .engine) (stripe-of (w .engine .set-up) a)))) a 0
+  free-word : (a : ℕ) → hold-of (thread-of (w .engine) (owner-at a)) ≡ None → Holder-drains a
   free-word a free =
       none-undrained (w .words) (h .updaters) a
       (λ i m. false-if-never (has-address a (not-drained (updater (h .updaters) i))) (λ t. nowhere i (drains-own a i m t)))
@@ -114,15 +120,11 @@ module _ (ws : List ℕ) (base : ℕ) (w : World) (h : History) (f : Fits ws bas
           free-not-sealed (thread-of (w .engine) (owner-at a)) (y .0 .ticket) (y .0 .drained) free
           (ap (λ (n : ℕ). thread-of (w .engine) n .phase) (y .1) ∙ y .0 .sealed)
 
-  -- at each address the undrained entries of all updaters come to those of the stripe's holder
-  undrained-word : (a : ℕ) → a < length (w .words) →
-      getD (put-in (w .words) (all-not-drained (h .updaters))) a 0
-      ≡ getD (put-in (w .words) (left-in (front (w .engine) (stripe-of (w .engine .set-up) a)))) a 0
+  -- so it is at each address
+  undrained-word : (a : ℕ) → a < length (w .words) → Holder-drains a
   undrained-word a l = go (sealed-or-free (thread-of (w .engine) (owner-at a)))
     where
-      go : ((k : ℕ) × (d : ℕ) × (thread-of (w .engine) (owner-at a) .phase ≡ Sealed k d)) ⊎ (hold-of (thread-of (w .engine) (owner-at a)) ≡ None) →
-          getD (put-in (w .words) (all-not-drained (h .updaters))) a 0
-          ≡ getD (put-in (w .words) (left-in (front (w .engine) (stripe-of (w .engine .set-up) a)))) a 0
+      go : ((k : ℕ) × (d : ℕ) × (thread-of (w .engine) (owner-at a) .phase ≡ Sealed k d)) ⊎ (hold-of (thread-of (w .engine) (owner-at a)) ≡ None) → Holder-drains a
       go (inl x) = held-word a (x .0) (x .1) l (x .2)
       go (inr free) = free-word a free
 

@@ -81,9 +81,13 @@ module _ (ws : List ℕ) (base : ℕ) (w : World) (h : History) (beats : Table) 
     hold = all-free (owner-of (rolled (w .engine)) s) i;
   }
 
+  -- a thread's seat after the roll
+  abbrev Rolled-seat : ℕ → Transaction → Type 0
+  Rolled-seat n x = Seat (w .engine .set-up) ws (h .updaters) (length (h .updaters)) (front (rolled (w .engine))) (owner-of (rolled (w .engine))) n (thread-of (w .engine) n) x
+
   -- an idle thread's seat does not depend on the moment of the last roll
   rolled-idle-seat : (n : ℕ) →
-      Seat (w .engine .set-up) ws (h .updaters) (length (h .updaters)) (front (rolled (w .engine))) (owner-of (rolled (w .engine))) n (thread-of (w .engine) n) (h .present n)
+      Rolled-seat n (h .present n)
   rolled-idle-seat n = record {
     named = f .seats n .named;
     inside = f .seats n .inside;
@@ -98,9 +102,9 @@ module _ (ws : List ℕ) (base : ℕ) (w : World) (h : History) (beats : Table) 
   }
 
   rolled-seat : (n : ℕ) → (n ≡ 0) ⊎ (n ≡ 0 → ⊥) →
-      Seat (w .engine .set-up) ws (h .updaters) (length (h .updaters)) (front (rolled (w .engine))) (owner-of (rolled (w .engine))) n (thread-of (w .engine) n) (rolled-history .present n)
+      Rolled-seat n (rolled-history .present n)
   rolled-seat n (inl e) =
-      subst (λ (y : Transaction). Seat (w .engine .set-up) ws (h .updaters) (length (h .updaters)) (front (rolled (w .engine))) (owner-of (rolled (w .engine))) n (thread-of (w .engine) n) y)
+      subst (λ (y : Transaction). Rolled-seat n y)
       (sym (present-caller (w .engine .set-up) h rolled-line n e))
       (seat-watched (w .engine .set-up) ws (h .updaters) (length (h .updaters)) (front (rolled (w .engine))) (owner-of (rolled (w .engine))) n (thread-of (w .engine) n)
       (length (h .updaters)) (leads-at (w .engine .set-up) rolled-line n) (h .present n) (rolled-idle-seat n))
