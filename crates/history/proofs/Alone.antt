@@ -37,6 +37,7 @@ module _ (ws : List ℕ) (base : ℕ) (w : World) (h : History) (beats : Table) 
     (m : Bool) (ss : Map Stripe) (ts : Map Thread) (f : Fits ws base w h)
     (others : (k : ℕ) → (k ≡ caller c → ⊥) → at ts k ≡ thread-of (w .engine) k)
     (free : hold-of (thread-of (w .engine) (caller c)) ≡ None) where
+  -- what the call leaves: the engine, the line and the history
   abbrev alone-state : State
   alone-state = quiet-state (w .engine) m ss ts
 
@@ -65,6 +66,7 @@ module _ (ws : List ℕ) (base : ℕ) (w : World) (h : History) (beats : Table) 
       go (inl p) = subst (λ (k : ℕ). hold-of (at ts k) ≡ hold-of (thread-of (w .engine) k)) (sym p) (e ∙ sym free)
       go (inr d) = ap hold-of (others n d)
 
+  -- each seat after the call, from the caller's and from those of the others as they were before it
   alone-seat : Seated (caller c) caller-after →
       ((n : ℕ) → (n ≡ caller c → ⊥) → Seat (w .engine .set-up) ws (h .updaters) base (front (w .engine)) (owner-of alone-state) n (thread-of (w .engine) n) (h .present n)) →
       (n : ℕ) → (n ≡ caller c) ⊎ (n ≡ caller c → ⊥) → Seated n (alone-history .present n)

@@ -79,6 +79,7 @@ record Leaves (w : Work) (f : Option Fall) (t : Thread) : Type 0 where
   told : (m : ℕ) (x : Transaction) → x .fall ≡ f → fallen m x (or-else (ended-loss (ending-of (t .phase))) None) ≡ x
 
 module _ (ws : List ℕ) (base : ℕ) (w : World) (h : History) (n : ℕ) (f : Fits ws base w h) where
+  -- a running transaction has this, and a lost one too
   leaves : (thread-of (w .engine) n .phase ≡ Running) ⊎ ((l : Loss) × (thread-of (w .engine) n .phase ≡ Lost l)) →
       Leaves (h .present n .work) (h .present n .fall) (thread-of (w .engine) n)
   leaves (inl e) = record {
@@ -104,6 +105,7 @@ module _ (ws : List ℕ) (base : ℕ) (w : World) (h : History) (n : ℕ) (f : F
 
 module _ (ws : List ℕ) (base : ℕ) (w : World) (h : History) (beats : Table) (n : ℕ) (f : Fits ws base w h)
     (x : Leaves (h .present n .work) (h .present n .fall) (thread-of (w .engine) n)) where
+  -- the engine and the threads after the back
   abbrev back-state : State
   back-state = release (w .engine) n None
 
@@ -114,6 +116,7 @@ module _ (ws : List ℕ) (base : ℕ) (w : World) (h : History) (beats : Table) 
   abbrev Back-seat : ℕ → Thread → Transaction → Type 0
   Back-seat k t y = Seat (w .engine .set-up) ws (h .updaters) base (front (w .engine)) (owner-of back-state) k t y
 
+  -- no other thread changed, and the caller is idle
   back-others : (k : ℕ) → (k ≡ n → ⊥) → at back-threads k ≡ thread-of (w .engine) k
   back-others k d = at-put-other (w .engine .threads) n k (with-phase (thread-of (w .engine) n) Idle) d
 
@@ -124,6 +127,7 @@ module _ (ws : List ℕ) (base : ℕ) (w : World) (h : History) (beats : Table) 
   no-owner-idle : thread-of (w .engine) 0 .phase ≡ Idle
   no-owner-idle = f .seats 0 .inside refl
 
+  -- each thread holds as it held
   back-holds : (k : ℕ) → hold-of (at back-threads k) ≡ hold-of (thread-of (w .engine) k)
   back-holds =
       alone-holds ws base w h beats (Back n) (WentBack (ending-of (thread-of (w .engine) n .phase))) [] (w .engine .mark)
@@ -187,6 +191,7 @@ module _ (ws : List ℕ) (base : ℕ) (w : World) (h : History) (beats : Table) 
   went-back =
       with-work (watched (leads beats n (w .engine .set-up .threads)) (h .present n)) (called (Back n) (h .present n .work))
 
+  -- the caller's seat, before and after the loss that it is told is looked at
   back-own : Back-seat n (with-phase (thread-of (w .engine) n) Idle) went-back
   back-own = record {
     named = f .seats n .named;
@@ -205,6 +210,7 @@ module _ (ws : List ℕ) (base : ℕ) (w : World) (h : History) (beats : Table) 
       (subst (λ (y : Transaction). Back-seat n (with-phase (thread-of (w .engine) n) Idle) y)
       (sym (x .told (length (h .updaters)) went-back refl)) back-own)
 
+  -- an admitted back keeps the invariant
   back-leaves : Kept ws base w h beats (Back n) (back-admitted w n (Ok tt))
   back-leaves =
       alone-keeps-owners ws base w h beats (Back n) (WentBack (ending-of (thread-of (w .engine) n .phase))) [] (w .engine .mark)

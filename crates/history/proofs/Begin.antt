@@ -75,6 +75,7 @@ module _ (ws : List ℕ) (base : ℕ) (w : World) (h : History) (beats : Table) 
     spared = tt;
   }
 
+  -- a begin that is not refused keeps the invariant
   begin-runs : Kept ws base w h beats (Begin n) (begin-unmarked w n false)
   begin-runs =
       alone-keeps ws base w h beats (Begin n) Done [] (w .engine .mark) (put (w .engine .threads) n (fresh (w .engine .clock))) f

@@ -46,12 +46,12 @@ false-if-never true e = absurd (e refl)
 false-if-never false e = refl
 
 module _ (ws : List ℕ) (base : ℕ) (w : World) (h : History) (f : Fits ws base w h) where
+  -- what is known of a sealed thread
   abbrev Sealed-seat : ℕ → ℕ → ℕ → Type 0
   Sealed-seat n k d =
       Sealed-fits (w .engine .set-up) (h .updaters) base (owner-of (w .engine)) n k d (thread-of (w .engine) n) (h .present n .work) (h .present n .fall)
 
-  sealed-seat : (n k d : ℕ) → thread-of (w .engine) n .phase ≡ Sealed k d →
-      Sealed-seat n k d
+  sealed-seat : (n k d : ℕ) → thread-of (w .engine) n .phase ≡ Sealed k d → Sealed-seat n k d
   sealed-seat n k d e =
       fits-sealed (w .engine .set-up) ws (h .updaters) base (front (w .engine)) (owner-of (w .engine)) n (thread-of (w .engine) n)
       (h .present n .work) (h .present n .fall) (thread-of (w .engine) n .phase) k d e (f .seats n .phase)
@@ -67,24 +67,25 @@ module _ (ws : List ℕ) (base : ℕ) (w : World) (h : History) (f : Fits ws bas
       x : Sealed-seat n k d
       x = sealed-seat n k d e
 
+  -- the owner of the stripe of an address
+  abbrev owner-at : ℕ → ℕ
+  owner-at a = owner-of (w .engine) (stripe-of (w .engine .set-up) a)
+
   -- an updater that has to drain to an address is the owner's of its stripe
   drains-own : (a k : ℕ) → k < length (h .updaters) → has-address a (not-drained (updater (h .updaters) k)) ≡ true →
-      (x : Draining (w .engine) h k) × (owner-of (w .engine) (stripe-of (w .engine .set-up) a) ≡ x .thread)
+      (x : Draining (w .engine) h k) × (owner-at a ≡ x .thread)
   drains-own a k l e = go (f .spent k l)
     where
-      owned : (x : Draining (w .engine) h k) → owner-of (w .engine) (stripe-of (w .engine .set-up) a) ≡ x .thread
+      owned : (x : Draining (w .engine) h k) → owner-at a ≡ x .thread
       owned x =
           let s = sealed-seat (x .thread) (x .ticket) (x .drained) (x .sealed) in
           let p : k ≡ s .place = one-number (h .present (x .thread) .work .number) k (s .place) (x .numbered) (s .numbered) in
           s .owns-log a (key-of-left (λ (y : WriteEntry). y .address) a (x .drained) (thread-of (w .engine) (x .thread) .writes)
           (ap (has-address a) (left-undrained (x .thread) (x .ticket) (x .drained) (x .sealed) ∙ ap (λ (i : ℕ). not-drained (updater (h .updaters) i)) (sym p)) ∙ e))
 
-      go : Spent (w .engine) h k → (x : Draining (w .engine) h k) × (owner-of (w .engine) (stripe-of (w .engine .set-up) a) ≡ x .thread)
+      go : Spent (w .engine) h k → (x : Draining (w .engine) h k) × (owner-at a ≡ x .thread)
       go (inl n) = absurd (both-ways (has-address a []) refl (ap (has-address a) (sym n) ∙ e))
       go (inr x) = (x, owned x)
-
-  abbrev owner-at : ℕ → ℕ
-  owner-at a = owner-of (w .engine) (stripe-of (w .engine .set-up) a)
 
   -- at this address the undrained entries of all updaters come to those of the stripe's holder
   abbrev Holder-drains : ℕ → Type 0

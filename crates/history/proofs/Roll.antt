@@ -53,6 +53,7 @@ rolled-front = record { version = 0; hold = None }
 
 module _ (ws : List ℕ) (base : ℕ) (w : World) (h : History) (beats : Table) (f : Fits ws base w h)
     (idle : idle-to (w .engine) (w .engine .set-up .threads) ≡ true) where
+  -- the line of the roll, and the history with it
   abbrev rolled-line : Line
   rolled-line = line-of beats Roll (done w Done [] (rolled (w .engine)))
 
@@ -69,9 +70,11 @@ module _ (ws : List ℕ) (base : ℕ) (w : World) (h : History) (beats : Table) 
           idle-each (w .engine) (w .engine .set-up .threads) n idle (leb-true 1 n (p .0)) (leb-true n (w .engine .set-up .threads) (p .1))
       go (inr e) = f .seats n .inside e
 
+  -- so no thread holds anything
   all-free : (n : ℕ) → hold-of (thread-of (w .engine) n) ≡ None
   all-free n = hold-none (thread-of (w .engine) n) Idle (all-idle n) refl
 
+  -- stripes have the owners that they had, and show version 0
   rolled-owner : (s : ℕ) → owner-of (rolled (w .engine)) s ≡ owner-of (w .engine) s
   rolled-owner s = ap (λ (x : Stripe). x .owner) (at-each rolled-stripe (w .engine .stripes) s)
 
@@ -101,6 +104,7 @@ module _ (ws : List ℕ) (base : ℕ) (w : World) (h : History) (beats : Table) 
     spared = f .seats n .spared;
   }
 
+  -- the roll does nothing to any transaction
   rolled-seat : (n : ℕ) → (n ≡ 0) ⊎ (n ≡ 0 → ⊥) →
       Rolled-seat n (rolled-history .present n)
   rolled-seat n (inl e) =
@@ -118,10 +122,12 @@ module _ (ws : List ℕ) (base : ℕ) (w : World) (h : History) (beats : Table) 
       subst (λ (fs : ℕ → Front). Word-fits (w .engine .set-up) ws (h .updaters) (w .words) fs a) (sym (fun-ext rolled-fronts))
       (f .words a l ∙ ap (λ o. getD (put-in (w .words) (left-of o)) a 0) (all-free (owner-of (w .engine) (stripe-of (w .engine .set-up) a))))
 
+  -- no updater has words to drain
   rolled-spent : (k : ℕ) → Spent (w .engine) h k → Spent (rolled (w .engine)) rolled-history k
   rolled-spent k (inl e) = inl e
   rolled-spent k (inr x) = absurd (free-not-sealed (thread-of (w .engine) (x .thread)) (x .ticket) (x .drained) (all-free (x .thread)) (x .sealed))
 
+  -- a roll that is not refused keeps the invariant
   roll-rolls : Kept ws (length (h .updaters)) w h beats Roll (roll-idle w true)
   roll-rolls = record {
     same-set-up = refl;

@@ -33,6 +33,7 @@ length-serial-run ws [] = refl
 length-serial-run ws (w ∷ us) =
     length-serial-run (moved-into ws (kept (w .calls))) us ∙ length-moved-into ws (kept (w .calls))
 
+-- entries in two parts go in one part after the other
 pub put-in-append : (ws : List ℕ) (xs ys : List WriteEntry) → put-in ws (xs ++ ys) ≡ put-in (put-in ws xs) ys
 put-in-append ws [] ys = refl
 put-in-append ws (x ∷ xs) ys = put-in-append (set ws (x .address) (x .word)) xs ys
