@@ -1,5 +1,7 @@
+pub mod Entries
 pub mod Fronts
 pub mod Growth
+pub mod Holders
 pub mod Induction
 pub mod Invariant
 pub mod Keys
@@ -9,5 +11,6 @@ pub mod NewEngine
 pub mod Phases
 pub mod Plan
 pub mod Quiet
+pub mod ReadLogs
 pub mod Refusals
 pub mod Seats
