@@ -20,13 +20,13 @@ use Rattle.std.specs.declared.option.Option.{Option}
 use Rattle.std.specs.declared.option.Option.the-variants.{Some, None}
 
 -- a thread holds its stripes exactly where it is sealed
-hold-unsealed : (es : List WriteEntry) (p : Phase) → is-sealed p ≡ false → hold-in es p ≡ None
+pub hold-unsealed : (es : List WriteEntry) (p : Phase) → is-sealed p ≡ false → hold-in es p ≡ None
 hold-unsealed es Idle e = refl
 hold-unsealed es Running e = refl
 hold-unsealed es (Sealed t d) e = absurd (let z : _≡_ {A = ℕ} 0 1 = cc in omega arith)
 hold-unsealed es (Lost l) e = refl
 
-unsealed-hold : (es : List WriteEntry) (p : Phase) → hold-in es p ≡ None → is-sealed p ≡ false
+pub unsealed-hold : (es : List WriteEntry) (p : Phase) → hold-in es p ≡ None → is-sealed p ≡ false
 unsealed-hold es Idle e = refl
 unsealed-hold es Running e = refl
 unsealed-hold es (Sealed t d) e = absurd (let z : _≡_ {A = ℕ} 0 1 = cc in omega arith)

@@ -1,5 +1,6 @@
 pub mod Entries
 pub mod Fronts
+pub mod GoingOn
 pub mod Growth
 pub mod Holders
 pub mod Induction
