@@ -181,10 +181,10 @@ module _ (leader-beats : Leader-beats) (ws : List ℕ) (base : ℕ) (w : World) 
 
   -- a leader is beaten by nobody
   leader-unbeaten : (k : ℕ) → (k ≡ caller c → ⊥) → beats (caller c) k ≡ true → leads beats k (w .engine .set-up .threads) ≡ true → ⊥
-  leader-unbeaten k d wins leads =
+  leader-unbeaten k d wins led =
       let p = and-parts (leb 1 (caller c)) (leb (caller c) (w .engine .set-up .threads)) member in
       both-ways (beats (caller c) k)
-      (leader-beats beats k (caller c) (w .engine .set-up .threads) leads (leb-true 1 (caller c) (p .0))
+      (leader-beats beats k (caller c) (w .engine .set-up .threads) led (leb-true 1 (caller c) (p .0))
       (leb-true (caller c) (w .engine .set-up .threads) (p .1)) (λ e. d (sym e)) .1)
       wins
 

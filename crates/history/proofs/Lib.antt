@@ -15,3 +15,4 @@ pub mod Quiet
 pub mod ReadLogs
 pub mod Refusals
 pub mod Seats
+pub mod Wins
