@@ -7,6 +7,7 @@ pub mod Induction
 pub mod Invariant
 pub mod Keys
 pub mod Lines
+pub mod Load
 pub mod Maps
 pub mod NewEngine
 pub mod Phases

@@ -1,0 +1,111 @@
+-- A load keeps what holds between engine and history.
+use Prim.Native.Nat.{ℕ, _+_, _<_, _≤_}
+use lib.Dec.{leb, ltb}
+use lib.ListN.{length, getD}
+use mathlib.Core.Bool.{Bool, true, false, cond, not, _&&_}
+use mathlib.Core.List.{List, [], _∷_, _++_}
+use mathlib.Core.Logic.{_⊎_, inl, inr}
+use mathlib.Core.Path.{_≡_, refl, ap, sym, subst, _∙_}
+use native.Mathlib.Omega.{arith}
+use Rattle.common.specs.declared.loss.Loss.the-variants.{Invalid}
+use Rattle.common.specs.declared.refusal.Refusal.{Refusal}
+use Rattle.common.specs.declared.refusal.Refusal.the-variants.{NoSuchPlace, LogFull, StripeBusy}
+use Rattle.contention.specs.Events.{Event, word-loaded}
+use Rattle.history.proofs.Entries.{has-before, has-pushed}
+use Rattle.history.proofs.GoingOn.{Beaten-by, Left-or-beaten, goes-on-keeps}
+use Rattle.history.proofs.Holders.{free-hold}
+use Rattle.history.proofs.Invariant.{Fits, Front, Mark-fits, Running-fits, front, top}
+use Rattle.history.proofs.Keys.{found-has}
+use Rattle.history.proofs.Maps.{at-put-same, at-put-other}
+use Rattle.history.proofs.Phases.{Admitted, admitted-parts, running-phase}
+use Rattle.history.proofs.Plan.{Kept, Leader-beats, Load-keeps, Log-finds-kept, Lost-keeps}
+use Rattle.history.proofs.Quiet.{quiet-outcome}
+use Rattle.history.proofs.ReadLogs.{free-word-agrees, invalid-excuses, refresh-agrees, running-fits}
+use Rattle.history.proofs.Refusals.{refused-keeps}
+use Rattle.history.proofs.Wins.{Refreshed, Won, contend-keeps, threaded}
+use Rattle.history.specs.Law.{Loads-at, words-at}
+use Rattle.history.specs.Record.{History, Work, Fall, called-load}
+use Rattle.history.specs.Serial.{kept, loaded-on, seen, word-or}
+use Rattle.layout.specs.Lookups.{first-with, has-key}
+use Rattle.layout.specs.SetUps.{stripe-of}
+use Rattle.layout.specs.declared.entries.WriteEntry.{WriteEntry}
+use Rattle.layout.specs.declared.set_up.SetUp.{SetUp}
+use Rattle.rules.specs.Admission.{admitted, is-thread}
+use Rattle.rules.specs.Conflicts.{busy, first-invalid, owner-of, recheck, rechecked, refresh}
+use Rattle.rules.specs.Load.{capacity, grown, has-read, is-full, load-admitted, load-free, load-fresh, load-logged, load-placed, load-roomy, load-won, note-read, written}
+use Rattle.rules.specs.Maps.{Map, at, put}
+use Rattle.rules.specs.Outcomes.{Step, Table, goes, loses}
+use Rattle.rules.specs.States.{ReadMark, State, Thread, World, stripe-at, thread-of, with-phase, with-reads, with-snapshot}
+use Rattle.rules.specs.declared.answer.Answer.the-variants.{Word}
+use Rattle.rules.specs.declared.call.Call.the-variants.{Load}
+use Rattle.rules.specs.declared.kind.Kind.the-variants.{Load as Loading}
+use Rattle.rules.specs.declared.phase.Phase.the-variants.{Running, Lost}
+use Rattle.std.proofs.shelf.Elements.{all-push, all-weaker}
+use Rattle.std.proofs.shelf.Tests.{and-cases, and-parts, cond-true, leb-false, lt-ltb, ltb-false, ltb-true}
+use Rattle.std.specs.Options.{isSome}
+use Rattle.std.specs.declared.option.Option.{Option}
+use Rattle.std.specs.declared.option.Option.the-variants.{Some, None}
+use Rattle.std.specs.declared.result.Result.{Result}
+use Rattle.std.specs.declared.result.Result.the-variants.{Ok, Err}
+use Rattle.std.specs.shelf.Lists.{All}
+
+-- words that are equal wherever the read log looks
+abbrev Same-read : SetUp → List ReadMark → List ℕ → List ℕ → Type 0
+Same-read u rs xs ys = (a : ℕ) → has-key (λ e. e .stripe) (stripe-of u a) rs ≡ true → getD xs a 0 ≡ getD ys a 0
+
+-- a thread with another snapshot end and read log
+abbrev read-on : Thread → ℕ → List ReadMark → Thread
+read-on t end rs = record { phase = t .phase; snapshot = end; reads = rs; writes = t .writes }
+
+-- what is left to show of a transaction that was answered a word: it loads it at its snapshot end, and wherever the
+-- words that its read log looks at are the same
+record Answered (u : SetUp) (ws : List ℕ) (us : List Work) (base : ℕ) (fs : ℕ → Front) (n a v end : ℕ) (t : Thread) (w : Work)
+    (rs : List ReadMark) : Type 0 where
+  later : t .snapshot ≤ end
+  so-far : base + end ≤ length us
+  loads : Loads-at ws us (base + end) w
+  here : seen (words-at ws us (base + end)) (kept (w .calls)) a ≡ v
+  only : (xs ys : List ℕ) → Same-read u rs xs ys → seen xs (kept (w .calls)) a ≡ seen ys (kept (w .calls)) a
+  more : (s : ℕ) → has-key (λ e. e .stripe) s (t .reads) ≡ true → has-key (λ e. e .stripe) s rs ≡ true
+  marks : All (λ e. Mark-fits u us n (w .begun) end (fs (e .stripe)) e) rs
+
+answered-fits : (u : SetUp) (ws : List ℕ) (us : List Work) (base : ℕ) (fs : ℕ → Front) (owner : ℕ → ℕ) (n a v end : ℕ)
+    (t : Thread) (w : Work) (f : Option Fall) (rs : List ReadMark) → Running-fits u ws us base fs owner n t w f →
+    Answered u ws us base fs n a v end t w rs →
+    Running-fits u ws us base fs owner n (read-on t end rs) (called-load (Load n a) (length us) v w) f
+answered-fits u ws us base fs owner n a v end t w f rs r x = record {
+  unnumbered = r .unnumbered;
+  standing = r .standing;
+  log = r .log;
+  owns-log = r .owns-log;
+  owns-stored = r .owns-stored;
+  since-begin = omega (arith, r .since-begin, x .later);
+  by-last-load = x .so-far;
+  so-far = omega arith;
+  loads = λ i. x .here i ∷ x .loads i;
+  covered = λ xs ys same. λ i. x .only xs ys same i ∷ r .covered xs ys (λ b has. same b (x .more (stripe-of u b) has)) i;
+  marks = x .marks;
+  others = r .others;
+}
+
+module _ (leader-beats : Leader-beats) (ws : List ℕ) (base : ℕ) (w : World) (h : History) (beats : Table) (n a : ℕ)
+    (f : Fits ws base w h) (run : thread-of (w .engine) n .phase ≡ Running) (member : is-thread (w .engine .set-up) n ≡ true) where
+  -- a load that is answered
+  answered-keeps : (v end : ℕ) (rs : List ReadMark) (es : List Event) (ts : Map Thread) →
+      at ts n ≡ read-on (thread-of (w .engine) n) end rs →
+      ((k : ℕ) → (k ≡ n → ⊥) → Left-or-beaten beats n k (thread-of (w .engine) k) (at ts k)) →
+      Answered (w .engine .set-up) ws (h .updaters) base (front (w .engine)) n a v end (thread-of (w .engine) n) (h .present n .work) rs →
+      Kept ws base w h beats (Load n a) (quiet-outcome w (Word v) es (threaded (w .engine) ts))
+  answered-keeps v end rs es ts own others x =
+      goes-on-keeps leader-beats ws base w h beats (Load n a) (Word v) es (called-load (Load n a) (length (h .updaters)) v)
+      (w .engine .mark) (w .engine .stripes) ts f run member
+      (record { acts = λ t. refl; thread = λ y. refl; updaters = λ y us. refl; past = λ t us. refl; told = refl })
+      (record {
+        others = others;
+        stripes = λ s. inl refl;
+        running = ap (λ (t : Thread). t .phase) own ∙ run;
+        fits = subst (λ (t : Thread). Running-fits (w .engine .set-up) ws (h .updaters) base (front (w .engine)) (owner-of (w .engine)) n t
+            (called-load (Load n a) (length (h .updaters)) v (h .present n .work)) (h .present n .fall)) (sym own)
+            (answered-fits (w .engine .set-up) ws (h .updaters) base (front (w .engine)) (owner-of (w .engine)) n a v end
+            (thread-of (w .engine) n) (h .present n .work) (h .present n .fall) rs (running-fits ws base w h n f run) x);
+      })
