@@ -109,3 +109,111 @@ module _ (leader-beats : Leader-beats) (ws : List ℕ) (base : ℕ) (w : World) 
             (answered-fits (w .engine .set-up) ws (h .updaters) base (front (w .engine)) (owner-of (w .engine)) n a v end
             (thread-of (w .engine) n) (h .present n .work) (h .present n .fall) rs (running-fits ws base w h n f run) x);
       })
+
+  module _ (log-finds-kept : Log-finds-kept) where
+    -- what the write log finds is what the transaction kept
+    finds-kept : (o : Option WriteEntry) → written (thread-of (w .engine) n) a ≡ o →
+        first-with (λ e. e .address) a (kept (h .present n .work .calls)) ≡ o
+    finds-kept o e =
+        sym (log-finds-kept (h .present n .work .calls) a)
+        ∙ ap (first-with (λ (y : WriteEntry). y .address) a) (sym (running-fits ws base w h n f run .log)) ∙ e
+
+    -- a load from the own log
+    own-log-keeps : (e : WriteEntry) → written (thread-of (w .engine) n) a ≡ Some e →
+        Kept ws base w h beats (Load n a) (load-logged beats w n a (Some e))
+    own-log-keeps e found =
+        answered-keeps (e .word) (thread-of (w .engine) n .snapshot) (thread-of (w .engine) n .reads) (word-loaded n ∷ []) (w .engine .threads) refl
+        (λ k d. inl refl)
+        (record {
+          later = omega arith;
+          so-far = omega (arith, r .by-last-load, r .so-far);
+          loads = r .loads;
+          here = ap (word-or _) (finds-kept (Some e) found);
+          only = λ xs ys same. ap (word-or (getD xs a 0)) (finds-kept (Some e) found) ∙ sym (ap (word-or (getD ys a 0)) (finds-kept (Some e) found));
+          more = λ s has. has;
+          marks = r .marks;
+        })
+      where
+        r : Running-fits (w .engine .set-up) ws (h .updaters) base (front (w .engine)) (owner-of (w .engine)) n
+            (thread-of (w .engine) n) (h .present n .work) (h .present n .fall)
+        r = running-fits ws base w h n f run
+
+    -- the snapshot end when a stripe was found not to be newer than it, or the read log was checked
+    module _ (s end : ℕ) (here : stripe-of (w .engine .set-up) a ≡ s) (inside : a < length (w .words))
+        (logless : written (thread-of (w .engine) n) a ≡ None) (free : front (w .engine) s .hold ≡ None)
+        (later : thread-of (w .engine) n .snapshot ≤ end) (fresh : stripe-at (w .engine) s .version ≤ end)
+        (so-far : base + end ≤ length (h .updaters)) (loads : Loads-at ws (h .updaters) (base + end) (h .present n .work)) where
+      -- the stored word is the one that the transaction loads
+      stored-word : seen (words-at ws (h .updaters) (base + end)) (kept (h .present n .work .calls)) a ≡ getD (w .words) a 0
+      stored-word =
+          ap (word-or (getD (words-at ws (h .updaters) (base + end)) a 0)) (finds-kept None logless)
+          ∙ free-word-agrees ws base w h a (base + end) f inside
+          (ap (λ (x : ℕ). front (w .engine) x .hold) here ∙ free)
+          (omega (arith, fresh, ap (λ (x : ℕ). stripe-at (w .engine) x .version) here)) so-far
+
+      -- the marks stay, at a later snapshot end
+      marks-later : All (λ e. Mark-fits (w .engine .set-up) (h .updaters) n (h .present n .work .begun) end (front (w .engine) (e .stripe)) e) (thread-of (w .engine) n .reads)
+      marks-later =
+          all-weaker _ _ (λ e m. record { old = omega (arith, later, m .old); state = m .state }) (thread-of (w .engine) n .reads) (running-fits ws base w h n f run .marks)
+
+      -- so the transaction is answered that word, if its read log has the stripe now
+      answered-stored : (rs : List ReadMark) → has-key (λ e. e .stripe) s rs ≡ true →
+          ((x : ℕ) → has-key (λ e. e .stripe) x (thread-of (w .engine) n .reads) ≡ true → has-key (λ e. e .stripe) x rs ≡ true) →
+          All (λ e. Mark-fits (w .engine .set-up) (h .updaters) n (h .present n .work .begun) end (front (w .engine) (e .stripe)) e) rs →
+          Answered (w .engine .set-up) ws (h .updaters) base (front (w .engine)) n a (getD (w .words) a 0) end (thread-of (w .engine) n) (h .present n .work) rs
+      answered-stored rs has more marks = record {
+        later = later;
+        so-far = so-far;
+        loads = loads;
+        here = stored-word;
+        only = λ xs ys same.
+            ap (word-or (getD xs a 0)) (finds-kept None logless)
+            ∙ same a (subst (λ (x : ℕ). has-key (λ e. e .stripe) x rs ≡ true) (sym here) has)
+            ∙ sym (ap (word-or (getD ys a 0)) (finds-kept None logless));
+        more = more;
+        marks = marks;
+      }
+
+      abbrev mark : ReadMark
+      mark = record { stripe = s; version = stripe-at (w .engine) s .version }
+
+      -- a stripe that is known
+      known-keeps : (ts : Map Thread) (es : List Event) → has-read (thread-of (w .engine) n) s ≡ true → Won beats (w .engine) n s end ts →
+          Kept ws base w h beats (Load n a) (load-won w n a s true (goes (threaded (w .engine) ts) es))
+      known-keeps ts es known won =
+          answered-keeps (getD (w .words) a 0) end (thread-of (w .engine) n .reads) (word-loaded n ∷ es) ts (won .own) (won .others)
+          (answered-stored (thread-of (w .engine) n .reads) (sym (found-has (λ e. e .stripe) s (thread-of (w .engine) n .reads)) ∙ known)
+          (λ x has. has) marks-later)
+
+      -- a stripe that is noted now
+      noted-keeps : (ts : Map Thread) (es : List Event) → is-full (thread-of (w .engine) n .reads) ≡ false → Won beats (w .engine) n s end ts →
+          Kept ws base w h beats (Load n a) (load-won w n a s false (goes (threaded (w .engine) ts) es))
+      noted-keeps ts es roomy won =
+          answered-keeps (getD (w .words) a 0) end (thread-of (w .engine) n .reads ++ mark ∷ []) (word-loaded n ∷ es) (put ts n noted)
+          (at-put-same ts n noted ∙ ap (λ (t : Thread). with-reads t (grown (t .reads) mark)) (won .own)
+          ∙ ap (λ (rs : List ReadMark). read-on (thread-of (w .engine) n) end rs) room)
+          (λ k d. subst (λ (t : Thread). Left-or-beaten beats n k (thread-of (w .engine) k) t) (sym (at-put-other ts n k noted d)) (won .others k d))
+          (answered-stored (thread-of (w .engine) n .reads ++ mark ∷ []) (has-pushed (λ e. e .stripe) s (thread-of (w .engine) n .reads) mark refl)
+          (λ x has. has-before (λ e. e .stripe) x (thread-of (w .engine) n .reads) mark has)
+          (all-push (λ e. Mark-fits (w .engine .set-up) (h .updaters) n (h .present n .work .begun) end (front (w .engine) (e .stripe)) e)
+          (thread-of (w .engine) n .reads) mark marks-later (record { old = fresh; state = inl (refl, free) })))
+        where
+          noted : Thread
+          noted = with-reads (at ts n) (grown (at ts n .reads) mark)
+
+          room : grown (thread-of (w .engine) n .reads) mark ≡ thread-of (w .engine) n .reads ++ mark ∷ []
+          room = cond-true (ltb (length (thread-of (w .engine) n .reads)) capacity) (thread-of (w .engine) n .reads ++ mark ∷ []) (thread-of (w .engine) n .reads)
+              (lt-ltb (length (thread-of (w .engine) n .reads)) capacity (leb-false capacity (length (thread-of (w .engine) n .reads)) roomy))
+
+      won-keeps : (known : Bool) → has-read (thread-of (w .engine) n) s ≡ known → (not known && is-full (thread-of (w .engine) n .reads)) ≡ false →
+          (ts : Map Thread) (es : List Event) → Won beats (w .engine) n s end ts →
+          Kept ws base w h beats (Load n a) (load-won w n a s known (goes (threaded (w .engine) ts) es))
+      won-keeps true e roomy ts es won = known-keeps ts es e won
+      won-keeps false e roomy ts es won = noted-keeps ts es roomy won
+
+      -- from the snapshot end on: the meeting, then the word
+      pub fresh-keeps : Lost-keeps → (known : Bool) → has-read (thread-of (w .engine) n) s ≡ known →
+          (not known && is-full (thread-of (w .engine) n .reads)) ≡ false → (ts : Map Thread) → Refreshed (w .engine) n end ts →
+          (es : List Event) → Kept ws base w h beats (Load n a) (load-fresh beats w n a s known (goes (threaded (w .engine) ts) es))
+      fresh-keeps lost-keeps known e roomy ts r es =
+          contend-keeps lost-keeps leader-beats ws base w h beats (Load n a) s end ts f run r (load-won w n a s known) (λ l st. refl) (won-keeps known e roomy)
