@@ -217,3 +217,101 @@ module _ (leader-beats : Leader-beats) (ws : List ℕ) (base : ℕ) (w : World) 
           (es : List Event) → Kept ws base w h beats (Load n a) (load-fresh beats w n a s known (goes (threaded (w .engine) ts) es))
       fresh-keeps lost-keeps known e roomy ts r es =
           contend-keeps lost-keeps leader-beats ws base w h beats (Load n a) s end ts f run r (load-won w n a s known) (λ l st. refl) (won-keeps known e roomy)
+
+-- the checks of a load, one after another
+module _ (lost-keeps : Lost-keeps) (leader-beats : Leader-beats) (log-finds-kept : Log-finds-kept)
+    (ws : List ℕ) (base : ℕ) (w : World) (h : History) (beats : Table) (n a : ℕ) (f : Fits ws base w h) where
+  abbrev loaded-stripe : ℕ
+  loaded-stripe = stripe-of (w .engine .set-up) a
+
+  module _ (run : thread-of (w .engine) n .phase ≡ Running) (member : is-thread (w .engine .set-up) n ≡ true) (inside : a < length (w .words))
+      (logless : written (thread-of (w .engine) n) a ≡ None) (known : Bool) (e : has-read (thread-of (w .engine) n) loaded-stripe ≡ known)
+      (roomy : (not known && is-full (thread-of (w .engine) n .reads)) ≡ false) where
+    r : Running-fits (w .engine .set-up) ws (h .updaters) base (front (w .engine)) (owner-of (w .engine)) n
+        (thread-of (w .engine) n) (h .present n .work) (h .present n .fall)
+    r = running-fits ws base w h n f run
+
+    module _ (free : front (w .engine) loaded-stripe .hold ≡ None) where
+      -- the stripe is not newer than the snapshot end
+      old-keeps : stripe-at (w .engine) loaded-stripe .version ≤ thread-of (w .engine) n .snapshot →
+          Kept ws base w h beats (Load n a) (load-fresh beats w n a loaded-stripe known (goes (w .engine) []))
+      old-keeps old =
+          fresh-keeps leader-beats ws base w h beats n a f run member log-finds-kept loaded-stripe (thread-of (w .engine) n .snapshot) refl inside logless free
+          (omega arith) old (omega (arith, r .by-last-load, r .so-far)) (r .loads)
+          lost-keeps known e roomy (w .engine .threads) (record { own = refl; others = λ k d. refl }) []
+
+      -- it is newer, and the read log has no invalid entry
+      checked-keeps : thread-of (w .engine) n .snapshot < stripe-at (w .engine) loaded-stripe .version →
+          first-invalid (w .engine) n (thread-of (w .engine) n .reads) ≡ None →
+          Kept ws base w h beats (Load n a) (load-fresh beats w n a loaded-stripe known (rechecked (w .engine) n None))
+      checked-keeps newer valid =
+          let by-clock : stripe-at (w .engine) loaded-stripe .version ≤ w .engine .clock =
+              omega (arith, f .stripes loaded-stripe .rises, f .stripes loaded-stripe .by-clock) in
+          fresh-keeps leader-beats ws base w h beats n a f run member log-finds-kept loaded-stripe (w .engine .clock) refl inside logless free
+          (omega (arith, newer, by-clock)) by-clock (omega (arith, f .count))
+          (subst (λ (m : ℕ). Loads-at ws (h .updaters) m (h .present n .work)) (f .count) (refresh-agrees ws base w h n f run valid))
+          lost-keeps known e roomy (put (w .engine .threads) n (with-snapshot (thread-of (w .engine) n) (w .engine .clock)))
+          (record {
+            own = at-put-same (w .engine .threads) n (with-snapshot (thread-of (w .engine) n) (w .engine .clock));
+            others = λ k d. at-put-other (w .engine .threads) n k (with-snapshot (thread-of (w .engine) n) (w .engine .clock)) d;
+          })
+          []
+
+      -- it is newer, and the read log has an invalid entry
+      invalid-keeps : (x : ℕ) → first-invalid (w .engine) n (thread-of (w .engine) n .reads) ≡ Some x →
+          Kept ws base w h beats (Load n a) (load-fresh beats w n a loaded-stripe known (rechecked (w .engine) n (Some x)))
+      invalid-keeps x bad =
+          lost-keeps ws base w h beats (Load n a) (Invalid x) (w .engine .mark) (put (w .engine .threads) n overtaken) f run
+          (ap (λ (t : Thread). t .phase) (at-put-same (w .engine .threads) n overtaken))
+          (λ k d. at-put-other (w .engine .threads) n k overtaken d)
+          (λ led. invalid-excuses ws base w h n x f run bad)
+        where
+          overtaken : Thread
+          overtaken = with-phase (thread-of (w .engine) n) (Lost (Invalid x))
+
+      refresh-keeps : Kept ws base w h beats (Load n a) (load-fresh beats w n a loaded-stripe known (refresh (w .engine) n loaded-stripe))
+      refresh-keeps = go (ltb (thread-of (w .engine) n .snapshot) (stripe-at (w .engine) loaded-stripe .version)) refl
+        where
+          check : thread-of (w .engine) n .snapshot < stripe-at (w .engine) loaded-stripe .version →
+              (o : Option ℕ) → first-invalid (w .engine) n (thread-of (w .engine) n .reads) ≡ o →
+              Kept ws base w h beats (Load n a) (load-fresh beats w n a loaded-stripe known (rechecked (w .engine) n o))
+          check newer None p = checked-keeps newer p
+          check newer (Some x) p = invalid-keeps x p
+
+          go : (b : Bool) → ltb (thread-of (w .engine) n .snapshot) (stripe-at (w .engine) loaded-stripe .version) ≡ b →
+              Kept ws base w h beats (Load n a) (load-fresh beats w n a loaded-stripe known (cond b (recheck (w .engine) n) (goes (w .engine) [])))
+          go true p = check (ltb-true (thread-of (w .engine) n .snapshot) (stripe-at (w .engine) loaded-stripe .version) p) (first-invalid (w .engine) n (thread-of (w .engine) n .reads)) refl
+          go false p = old-keeps (ltb-false (thread-of (w .engine) n .snapshot) (stripe-at (w .engine) loaded-stripe .version) p)
+
+    free-keeps : (b : Bool) → busy (w .engine) n loaded-stripe ≡ b → Kept ws base w h beats (Load n a) (load-free beats w n a loaded-stripe known b)
+    free-keeps true p = refused-keeps ws base w h beats (Load n a) StripeBusy f
+    free-keeps false p = refresh-keeps (free-hold ws base w h n loaded-stripe f run p)
+
+  roomy-keeps : thread-of (w .engine) n .phase ≡ Running → is-thread (w .engine .set-up) n ≡ true → a < length (w .words) →
+      written (thread-of (w .engine) n) a ≡ None → (known : Bool) → has-read (thread-of (w .engine) n) loaded-stripe ≡ known →
+      (b : Bool) → (not known && is-full (thread-of (w .engine) n .reads)) ≡ b →
+      Kept ws base w h beats (Load n a) (load-roomy beats w n a loaded-stripe known b)
+  roomy-keeps run member inside logless known e true p = refused-keeps ws base w h beats (Load n a) LogFull f
+  roomy-keeps run member inside logless known e false p =
+      free-keeps run member inside logless known e p (busy (w .engine) n loaded-stripe) refl
+
+  logged-keeps : thread-of (w .engine) n .phase ≡ Running → is-thread (w .engine .set-up) n ≡ true → a < length (w .words) →
+      (o : Option WriteEntry) → written (thread-of (w .engine) n) a ≡ o → Kept ws base w h beats (Load n a) (load-logged beats w n a o)
+  logged-keeps run member inside (Some e) p = own-log-keeps leader-beats ws base w h beats n a f run member log-finds-kept e p
+  logged-keeps run member inside None p =
+      roomy-keeps run member inside p (has-read (thread-of (w .engine) n) loaded-stripe) refl
+      (not (has-read (thread-of (w .engine) n) loaded-stripe) && is-full (thread-of (w .engine) n .reads)) refl
+
+  placed-keeps : Admitted (w .engine) Loading n → (b : Bool) → ltb a (length (w .words)) ≡ b → Kept ws base w h beats (Load n a) (load-placed beats w n a b)
+  placed-keeps x false p = refused-keeps ws base w h beats (Load n a) NoSuchPlace f
+  placed-keeps x true p =
+      logged-keeps (running-phase (thread-of (w .engine) n .phase) (x .fits)) (x .inside) (ltb-true a (length (w .words)) p)
+      (written (thread-of (w .engine) n) a) refl
+
+  admitted-keeps : (r : Result (Unit {0}) Refusal) → admitted (w .engine) Loading n ≡ r → Kept ws base w h beats (Load n a) (load-admitted beats w n a r)
+  admitted-keeps (Err r) p = refused-keeps ws base w h beats (Load n a) r f
+  admitted-keeps (Ok x) p = placed-keeps (admitted-parts (w .engine) Loading n x p) (ltb a (length (w .words))) refl
+
+pub load-keeps : Lost-keeps → Leader-beats → Log-finds-kept → Load-keeps
+load-keeps lost-keeps leader-beats log-finds-kept ws base w h beats n a f =
+    admitted-keeps lost-keeps leader-beats log-finds-kept ws base w h beats n a f (admitted (w .engine) Loading n) refl
