@@ -16,4 +16,5 @@ pub mod Quiet
 pub mod ReadLogs
 pub mod Refusals
 pub mod Seats
+pub mod Store
 pub mod Wins
