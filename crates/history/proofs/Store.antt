@@ -229,3 +229,39 @@ module _ (leader-beats : Leader-beats) (ws : List ℕ) (base : ℕ) (w : World) 
             Kept ws base w h beats (Store n a v) (store-taken w n stored-stripe es (note-write (threaded (w .engine) ts) n a v) b)
         go true p = owned-keeps es (eqb-true (owner-of (w .engine) stored-stripe) n p)
         go false p = taken-keeps es
+
+-- the checks of a store, one after another
+module _ (lost-keeps : Lost-keeps) (leader-beats : Leader-beats) (ws : List ℕ) (base : ℕ) (w : World) (h : History) (beats : Table)
+    (n a v : ℕ) (f : Fits ws base w h) where
+  module _ (run : thread-of (w .engine) n .phase ≡ Running) (member : is-thread (w .engine .set-up) n ≡ true) where
+    free-keeps : has-written (thread-of (w .engine) n) a ≡ false → is-full (thread-of (w .engine) n .writes) ≡ false →
+        (b : Bool) → busy (w .engine) n (stripe-of (w .engine .set-up) a) ≡ b →
+        Kept ws base w h beats (Store n a v) (store-free beats w n a v (stripe-of (w .engine .set-up) a) b)
+    free-keeps fresh roomy true p = refused-keeps ws base w h beats (Store n a v) StripeBusy f
+    free-keeps fresh roomy false p =
+        contend-keeps lost-keeps leader-beats ws base w h beats (Store n a v) (stripe-of (w .engine .set-up) a) (thread-of (w .engine) n .snapshot)
+        (w .engine .threads) f run (record { own = refl; others = λ k d. refl }) (store-won w n a v (stripe-of (w .engine .set-up) a)) (λ l st. refl)
+        (λ ts es won. won-keeps leader-beats ws base w h beats n a v f run member fresh roomy
+        (free-hold ws base w h n (stripe-of (w .engine .set-up) a) f run p) ts won es)
+
+    roomy-keeps : has-written (thread-of (w .engine) n) a ≡ false → (b : Bool) → is-full (thread-of (w .engine) n .writes) ≡ b →
+        Kept ws base w h beats (Store n a v) (store-roomy beats w n a v (stripe-of (w .engine .set-up) a) b)
+    roomy-keeps fresh true p = refused-keeps ws base w h beats (Store n a v) LogFull f
+    roomy-keeps fresh false p = free-keeps fresh p (busy (w .engine) n (stripe-of (w .engine .set-up) a)) refl
+
+    entry-keeps : (b : Bool) → has-written (thread-of (w .engine) n) a ≡ b → Kept ws base w h beats (Store n a v) (store-logged beats w n a v b)
+    entry-keeps true p = rewrite-keeps leader-beats ws base w h beats n a v f run member p
+    entry-keeps false p = roomy-keeps p (is-full (thread-of (w .engine) n .writes)) refl
+
+  placed-keeps : Admitted (w .engine) Storing n → (b : Bool) → Kept ws base w h beats (Store n a v) (store-placed beats w n a v b)
+  placed-keeps x false = refused-keeps ws base w h beats (Store n a v) NoSuchPlace f
+  placed-keeps x true =
+      entry-keeps (running-phase (thread-of (w .engine) n .phase) (x .fits)) (x .inside) (has-written (thread-of (w .engine) n) a) refl
+
+  admitted-keeps : (r : Result (Unit {0}) Refusal) → admitted (w .engine) Storing n ≡ r → Kept ws base w h beats (Store n a v) (store-admitted beats w n a v r)
+  admitted-keeps (Err r) p = refused-keeps ws base w h beats (Store n a v) r f
+  admitted-keeps (Ok x) p = placed-keeps (admitted-parts (w .engine) Storing n x p) (ltb a (length (w .words)))
+
+pub store-keeps : Lost-keeps → Leader-beats → Store-keeps
+store-keeps lost-keeps leader-beats ws base w h beats n a v f =
+    admitted-keeps lost-keeps leader-beats ws base w h beats n a v f (admitted (w .engine) Storing n) refl
