@@ -12,20 +12,19 @@ use Rattle.contention.specs.Events.{Event}
 use Rattle.history.proofs.Fronts.{hold-none}
 use Rattle.history.proofs.Growth.{grows-none}
 use Rattle.history.proofs.Holders.{unsealed-hold}
-use Rattle.history.proofs.Invariant.{Fits, Front, Running-fits, Phase-fits, Seat, Draining, front, hold-of}
-use Rattle.history.proofs.Lines.{present-caller, present-other, leads-at, fallen-work}
+use Rattle.history.proofs.Invariant.{Fits, Running-fits, Phase-fits, Seat, Draining, front, hold-of}
+use Rattle.history.proofs.Lines.{present-caller, present-other, leads-at}
 use Rattle.history.proofs.Plan.{Kept, Leader-beats, then}
-use Rattle.history.proofs.Quiet.{Quiet, quiet-keeps, quiet-outcome, quiet-state}
+use Rattle.history.proofs.Quiet.{quiet-keeps, quiet-outcome, quiet-state}
 use Rattle.history.proofs.ReadLogs.{running-fits}
 use Rattle.history.proofs.Seats.{Apart, running-apart, sealed-apart, seat-other, number-other}
 use Rattle.history.specs.Law.{Point, Spared}
 use Rattle.history.specs.Record.{History, Line, Transaction, Work, Fall, acted, caller, deed, fallen, first-fall, leads, or-else, past-after, sealed-after, told-loss, watched, with-work}
 use Rattle.history.specs.Runs.{line-of, loss-in}
-use Rattle.layout.specs.declared.set_up.SetUp.{SetUp}
 use Rattle.rules.specs.Admission.{is-running, is-sealed, is-thread}
 use Rattle.rules.specs.Conflicts.{owner-of}
 use Rattle.rules.specs.Maps.{Map, at}
-use Rattle.rules.specs.Outcomes.{Outcome, Table}
+use Rattle.rules.specs.Outcomes.{Table}
 use Rattle.rules.specs.States.{State, Stripe, Thread, World, stripe-at, thread-of}
 use Rattle.rules.specs.declared.answer.Answer.{Answer}
 use Rattle.rules.specs.declared.call.Call.{Call}

@@ -1,23 +1,22 @@
 -- Who holds a stripe, and what its front shows of that.
 use Prim.Native.Nat.{ℕ}
 use lib.Dec.{eqb}
-use mathlib.Core.Bool.{Bool, true, false, not, _&&_}
+use mathlib.Core.Bool.{false, not}
 use mathlib.Core.List.{List}
 use mathlib.Core.Logic.{_⊎_, inl, inr}
-use mathlib.Core.Path.{_≡_, refl, ap, sym, subst, _∙_}
+use mathlib.Core.Path.{_≡_, refl, ap, _∙_}
 use native.Mathlib.Omega.{arith}
-use Rattle.history.proofs.Invariant.{Fits, Hold, front, hold-in, hold-of}
+use Rattle.history.proofs.Invariant.{Fits, front, hold-in, hold-of}
 use Rattle.history.proofs.Fronts.{hold-none}
 use Rattle.history.specs.Record.{History}
 use Rattle.layout.specs.declared.entries.WriteEntry.{WriteEntry}
 use Rattle.rules.specs.Admission.{is-sealed}
-use Rattle.rules.specs.Conflicts.{busy, busy-by, is-other, owner-of}
-use Rattle.rules.specs.States.{State, World, Thread, thread-of}
+use Rattle.rules.specs.Conflicts.{busy, is-other, owner-of}
+use Rattle.rules.specs.States.{State, World, thread-of}
 use Rattle.rules.specs.declared.phase.Phase.{Phase}
 use Rattle.rules.specs.declared.phase.Phase.the-variants.{Idle, Running, Sealed, Lost}
-use Rattle.std.proofs.shelf.Tests.{and-cases, and-left, and-right, cases-eq, eqb-true, ne-eqb, not-false}
-use Rattle.std.specs.declared.option.Option.{Option}
-use Rattle.std.specs.declared.option.Option.the-variants.{Some, None}
+use Rattle.std.proofs.shelf.Tests.{and-cases, and-right, eqb-true, not-false}
+use Rattle.std.specs.declared.option.Option.the-variants.{None}
 
 -- a thread holds its stripes exactly where it is sealed
 pub hold-unsealed : (es : List WriteEntry) (p : Phase) → is-sealed p ≡ false → hold-in es p ≡ None

@@ -1,10 +1,10 @@
 -- A load keeps what holds between engine and history.
 use Prim.Native.Nat.{ℕ, _+_, _<_, _≤_}
-use lib.Dec.{leb, ltb}
+use lib.Dec.{ltb}
 use lib.ListN.{length, getD}
 use mathlib.Core.Bool.{Bool, true, false, cond, not, _&&_}
 use mathlib.Core.List.{List, [], _∷_, _++_}
-use mathlib.Core.Logic.{_⊎_, inl, inr}
+use mathlib.Core.Logic.{inl}
 use mathlib.Core.Path.{_≡_, refl, ap, sym, subst, _∙_}
 use native.Mathlib.Omega.{arith}
 use Rattle.common.specs.declared.loss.Loss.the-variants.{Invalid}
@@ -12,9 +12,9 @@ use Rattle.common.specs.declared.refusal.Refusal.{Refusal}
 use Rattle.common.specs.declared.refusal.Refusal.the-variants.{NoSuchPlace, LogFull, StripeBusy}
 use Rattle.contention.specs.Events.{Event, word-loaded}
 use Rattle.history.proofs.Entries.{has-before, has-pushed}
-use Rattle.history.proofs.GoingOn.{Beaten-by, Left-or-beaten, goes-on-keeps}
+use Rattle.history.proofs.GoingOn.{Left-or-beaten, goes-on-keeps}
 use Rattle.history.proofs.Holders.{free-hold}
-use Rattle.history.proofs.Invariant.{Fits, Front, Mark-fits, Running-fits, front, top}
+use Rattle.history.proofs.Invariant.{Fits, Front, Mark-fits, Running-fits, front}
 use Rattle.history.proofs.Keys.{found-has}
 use Rattle.history.proofs.Maps.{at-put-same, at-put-other}
 use Rattle.history.proofs.Phases.{Admitted, admitted-parts, running-phase}
@@ -25,24 +25,23 @@ use Rattle.history.proofs.Refusals.{refused-keeps}
 use Rattle.history.proofs.Wins.{Refreshed, Won, contend-keeps, threaded}
 use Rattle.history.specs.Law.{Loads-at, words-at}
 use Rattle.history.specs.Record.{History, Work, Fall, called-load}
-use Rattle.history.specs.Serial.{kept, loaded-on, seen, word-or}
+use Rattle.history.specs.Serial.{kept, seen, word-or}
 use Rattle.layout.specs.Lookups.{first-with, has-key}
 use Rattle.layout.specs.SetUps.{stripe-of}
 use Rattle.layout.specs.declared.entries.WriteEntry.{WriteEntry}
 use Rattle.layout.specs.declared.set_up.SetUp.{SetUp}
 use Rattle.rules.specs.Admission.{admitted, is-thread}
 use Rattle.rules.specs.Conflicts.{busy, first-invalid, owner-of, recheck, rechecked, refresh}
-use Rattle.rules.specs.Load.{capacity, grown, has-read, is-full, load-admitted, load-free, load-fresh, load-logged, load-placed, load-roomy, load-won, note-read, written}
+use Rattle.rules.specs.Load.{capacity, grown, has-read, is-full, load-admitted, load-free, load-fresh, load-logged, load-placed, load-roomy, load-won, written}
 use Rattle.rules.specs.Maps.{Map, at, put}
-use Rattle.rules.specs.Outcomes.{Step, Table, goes, loses}
-use Rattle.rules.specs.States.{ReadMark, State, Thread, World, stripe-at, thread-of, with-phase, with-reads, with-snapshot}
+use Rattle.rules.specs.Outcomes.{Table, goes}
+use Rattle.rules.specs.States.{ReadMark, Thread, World, stripe-at, thread-of, with-phase, with-reads, with-snapshot}
 use Rattle.rules.specs.declared.answer.Answer.the-variants.{Word}
 use Rattle.rules.specs.declared.call.Call.the-variants.{Load}
 use Rattle.rules.specs.declared.kind.Kind.the-variants.{Load as Loading}
 use Rattle.rules.specs.declared.phase.Phase.the-variants.{Running, Lost}
 use Rattle.std.proofs.shelf.Elements.{all-push, all-weaker}
-use Rattle.std.proofs.shelf.Tests.{and-cases, and-parts, cond-true, leb-false, lt-ltb, ltb-false, ltb-true}
-use Rattle.std.specs.Options.{isSome}
+use Rattle.std.proofs.shelf.Tests.{cond-true, leb-false, lt-ltb, ltb-false, ltb-true}
 use Rattle.std.specs.declared.option.Option.{Option}
 use Rattle.std.specs.declared.option.Option.the-variants.{Some, None}
 use Rattle.std.specs.declared.result.Result.{Result}

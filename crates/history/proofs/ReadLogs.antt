@@ -1,18 +1,18 @@
 -- What a read log says of the words at other moments.
 use Prim.Native.Nat.{ℕ, zero, suc, _+_, _<_, _≤_}
 use lib.Dec.{eqb}
-use lib.ListN.{length, getD, take}
-use mathlib.Core.Bool.{Bool, true, false, cond, not, _&&_, _||_}
+use lib.ListN.{length, getD}
+use mathlib.Core.Bool.{Bool, true, false, cond, not}
 use mathlib.Core.List.{List, [], _∷_}
 use mathlib.Core.Logic.{_⊎_, inl, inr}
 use mathlib.Core.Path.{_≡_, refl, ap, sym, subst, _∙_}
 use native.Mathlib.Omega.{arith}
 use Rattle.history.proofs.Entries.{all-both, keyed}
 use Rattle.history.proofs.Holders.{free-hold, held-none-free}
-use Rattle.history.proofs.Invariant.{Fits, Front, Hold, Mark-fits, Overtaken, Running-fits, front, left-in, left-of, stores-in, top, top-of}
+use Rattle.history.proofs.Invariant.{Fits, Hold, Mark-fits, Overtaken, Running-fits, front, left-of, stores-in, top, top-of}
 use Rattle.history.proofs.Phases.{fits-running}
 use Rattle.history.proofs.Plan.{Free-word-agrees, Refresh-agrees, Invalid-excuses}
-use Rattle.history.specs.Law.{updater, words-at, Stored-by-other}
+use Rattle.history.specs.Law.{updater, words-at}
 use Rattle.history.specs.Record.{History, Work}
 use Rattle.history.specs.Serial.{kept, loaded-on, moved-into, serial-run, put-in}
 use Rattle.layout.specs.Lookups.{has-key}
@@ -24,7 +24,7 @@ use Rattle.rules.specs.States.{State, World, ReadMark, thread-of, stripe-at}
 use Rattle.rules.specs.declared.phase.Phase.the-variants.{Running}
 use Rattle.std.proofs.shelf.Elements.{all-weaker}
 use Rattle.std.proofs.shelf.Lists.{getD-set-other, take-all}
-use Rattle.std.proofs.shelf.Tests.{and-parts, cases-bool, eq-eqb, eqb-false, eqb-true, and-from, both-ways, not-true, not-from-false, or-cases, or-parts}
+use Rattle.std.proofs.shelf.Tests.{and-parts, eq-eqb, eqb-false, eqb-true, and-from, both-ways, not-true, not-from-false, or-parts}
 use Rattle.std.specs.declared.option.Option.{Option}
 use Rattle.std.specs.declared.option.Option.the-variants.{Some, None}
 use Rattle.std.specs.shelf.Lists.{All}

@@ -1,8 +1,8 @@
 -- A store keeps what holds between engine and history.
 use Prim.Native.Nat.{ℕ}
-use lib.Dec.{eqb, leb, ltb}
+use lib.Dec.{eqb, ltb}
 use lib.ListN.{length}
-use mathlib.Core.Bool.{Bool, true, false, cond, _||_}
+use mathlib.Core.Bool.{Bool, true, false}
 use mathlib.Core.List.{List, [], _∷_, _++_}
 use mathlib.Core.Logic.{_⊎_, inl, inr}
 use mathlib.Core.Path.{_≡_, refl, ap, sym, subst, _∙_}
@@ -22,7 +22,7 @@ use Rattle.history.proofs.ReadLogs.{running-fits}
 use Rattle.history.proofs.Refusals.{refused-keeps}
 use Rattle.history.proofs.Wins.{Won, contend-keeps, threaded}
 use Rattle.history.specs.Record.{History, Work, Fall, called}
-use Rattle.history.specs.Serial.{kept, write-log}
+use Rattle.history.specs.Serial.{write-log}
 use Rattle.layout.specs.Lookups.{has-key, replaced}
 use Rattle.layout.specs.SetUps.{stripe-of}
 use Rattle.layout.specs.declared.entries.WriteEntry.{WriteEntry}
@@ -38,7 +38,7 @@ use Rattle.rules.specs.declared.answer.Answer.the-variants.{Done}
 use Rattle.rules.specs.declared.call.Call.the-variants.{Store}
 use Rattle.rules.specs.declared.kind.Kind.the-variants.{Store as Storing}
 use Rattle.rules.specs.declared.phase.Phase.the-variants.{Running}
-use Rattle.std.proofs.shelf.Tests.{cases-eq, cond-false, cond-true, eq-eqb, eqb-false, eqb-true, leb-false, lt-ltb, or-left, or-right}
+use Rattle.std.proofs.shelf.Tests.{cases-eq, cond-false, cond-true, eq-eqb, eqb-true, leb-false, lt-ltb, or-left, or-right}
 use Rattle.std.specs.declared.result.Result.{Result}
 use Rattle.std.specs.declared.result.Result.the-variants.{Ok, Err}
 use Rattle.std.specs.declared.option.Option.{Option}

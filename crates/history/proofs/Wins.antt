@@ -9,7 +9,7 @@ use native.Mathlib.Omega.{arith}
 use Rattle.common.specs.declared.loss.Loss.{Loss}
 use Rattle.common.specs.declared.loss.Loss.the-variants.{Beaten, Stolen}
 use Rattle.contention.specs.Events.{Event, win-over}
-use Rattle.history.proofs.GoingOn.{Beaten-by, Left-or-beaten}
+use Rattle.history.proofs.GoingOn.{Left-or-beaten}
 use Rattle.history.proofs.Invariant.{Fits}
 use Rattle.history.proofs.Maps.{at-put-same, at-put-other}
 use Rattle.history.proofs.Phases.{running-phase}
@@ -17,7 +17,7 @@ use Rattle.history.proofs.Plan.{Kept, Leader-beats, Lost-keeps}
 use Rattle.history.proofs.Quiet.{quiet-state}
 use Rattle.history.specs.Record.{History, caller, leads}
 use Rattle.rules.specs.Admission.{is-running, is-thread}
-use Rattle.rules.specs.Conflicts.{clash, contend, contended, is-other, owner-of, rival, rival-of}
+use Rattle.rules.specs.Conflicts.{clash, contend, contended, is-other, owner-of, rival}
 use Rattle.rules.specs.Maps.{Map, at, put}
 use Rattle.rules.specs.Outcomes.{Outcome, Step, Table, goes, loses, lost}
 use Rattle.rules.specs.States.{State, Thread, World, lose, thread-of, with-phase, with-snapshot}
