@@ -1,12 +1,14 @@
 -- Entries with a key, and those that have it.
 use Prim.Native.Nat.{ℕ}
-use lib.Dec.{eqb}
+use lib.Dec.{eqb, ltb}
+use lib.ListN.{length}
 use mathlib.Core.Bool.{Bool, true, false, cond, _||_}
 use mathlib.Core.List.{List, [], _∷_, _++_}
 use mathlib.Core.Logic.{_⊎_, inl, inr}
 use mathlib.Core.Path.{_≡_, refl, ap, sym, _∙_}
 use Rattle.layout.specs.Lookups.{has-key, replaced}
-use Rattle.std.proofs.shelf.Tests.{both-ways, eq-eqb, eqb-true, or-cases, or-left, or-right}
+use Rattle.rules.specs.Load.{capacity, grown, is-full}
+use Rattle.std.proofs.shelf.Tests.{both-ways, cond-true, eq-eqb, eqb-true, leb-false, lt-ltb, or-cases, or-left, or-right}
 use Rattle.std.specs.shelf.Lists.{All}
 
 -- what holds of every entry holds of one that has the key
@@ -20,6 +22,7 @@ keyed {E} key k P (e ∷ es) x has = go (or-cases (eqb (key e) k) (has-key key k
     go (inl p) later = (e, eqb-true (key e) k p, x .0)
     go (inr p) later = later p
 
+-- two facts of every entry
 pub all-both : {E : Type 0} (P Q : E → Type 0) (es : List E) → All P es → All Q es → All (λ e. P e × Q e) es
 all-both P Q [] x y = tt
 all-both P Q (e ∷ es) x y = ((x .0, y .0), all-both P Q es (x .1) (y .1))
@@ -34,14 +37,16 @@ has-append key k (x ∷ xs) ys = go (eqb (key x) k) (has-append key k xs ys)
     go true e = refl
     go false e = e
 
--- one more entry: its key, and those that were there
+-- with one more entry a list has its key
 pub has-pushed : {E : Type 0} (key : E → ℕ) (k : ℕ) (xs : List E) (x : E) → key x ≡ k → has-key key k (xs ++ x ∷ []) ≡ true
 has-pushed key k xs x e =
     has-append key k xs (x ∷ []) ∙ or-right (has-key key k xs) (has-key key k (x ∷ [])) (or-left (eqb (key x) k) false (eq-eqb (key x) k e))
 
+-- and the keys that it had
 pub has-before : {E : Type 0} (key : E → ℕ) (k : ℕ) (xs : List E) (x : E) → has-key key k xs ≡ true → has-key key k (xs ++ x ∷ []) ≡ true
 has-before key k xs x e = has-append key k xs (x ∷ []) ∙ or-left (has-key key k xs) (has-key key k (x ∷ [])) e
 
+-- and no others
 pub pushed-cases : {E : Type 0} (key : E → ℕ) (k : ℕ) (xs : List E) (x : E) → has-key key k (xs ++ x ∷ []) ≡ true →
     (has-key key k xs ≡ true) ⊎ (key x ≡ k)
 pushed-cases key k xs x e = go (or-cases (has-key key k xs) (has-key key k (x ∷ [])) (sym (has-append key k xs (x ∷ [])) ∙ e))
@@ -63,3 +68,8 @@ has-replaced key k new (x ∷ xs) = go (eqb (key x) (key new)) refl (has-replace
         has-key key k (cond b (new ∷ xs) (x ∷ replaced key new xs)) ≡ (eqb (key x) k || has-key key k xs)
     go true e later = ap (λ (j : ℕ). eqb j k || has-key key k xs) (sym (eqb-true (key x) (key new) e))
     go false e later = ap (λ (b : Bool). eqb (key x) k || b) later
+
+-- a log that is not full grows by the entry
+pub grown-roomy : {E : Type 0} (es : List E) (e : E) → is-full es ≡ false → grown es e ≡ es ++ e ∷ []
+grown-roomy es e roomy =
+    cond-true (ltb (length es) capacity) (es ++ e ∷ []) es (lt-ltb (length es) capacity (leb-false capacity (length es) roomy))

@@ -16,7 +16,7 @@ use Rattle.history.proofs.Invariant.{Fits, Running-fits, Phase-fits, Seat, Dra
 use Rattle.history.proofs.Lines.{present-caller, present-other, leads-at}
 use Rattle.history.proofs.Plan.{Kept, Leader-beats, then}
 use Rattle.history.proofs.Quiet.{quiet-keeps, quiet-outcome, quiet-state}
-use Rattle.history.proofs.ReadLogs.{running-fits}
+use Rattle.history.proofs.Running.{running-fits, running-member}
 use Rattle.history.proofs.Seats.{Apart, running-apart, sealed-apart, seat-other, number-other}
 use Rattle.history.specs.Law.{Point, Spared}
 use Rattle.history.specs.Record.{History, Line, Transaction, Work, Fall, acted, caller, deed, fallen, first-fall, leads, or-else, past-after, sealed-after, told-loss, watched, with-work}
@@ -71,8 +71,9 @@ pub record Goes-through (ws : List ℕ) (base : ℕ) (w : World) (h : History) (
 
 module _ (leader-beats : Leader-beats) (ws : List ℕ) (base : ℕ) (w : World) (h : History) (beats : Table) (c : Call) (a : Answer)
     (es : List Event) (more : Work → Work) (m : Bool) (ss : Map Stripe) (ts : Map Thread) (f : Fits ws base w h)
-    (run : thread-of (w .engine) (caller c) .phase ≡ Running) (member : is-thread (w .engine .set-up) (caller c) ≡ true)
+    (run : thread-of (w .engine) (caller c) .phase ≡ Running)
     (goes : Goes-on c a (length (h .updaters)) more) (x : Goes-through ws base w h beats (caller c) more ss ts) where
+  -- the engine, the line and the history after the call
   abbrev after : State
   after = quiet-state (w .engine) m ss ts
 
@@ -141,7 +142,7 @@ module _ (leader-beats : Leader-beats) (ws : List ℕ) (base : ℕ) (w : World) 
       go (inl p) = ap (λ (y : Stripe). y .owner) p ∙ e
       go (inr y) = absurd (was y busy)
 
-  -- a thread that is as it was keeps its facts
+  -- a thread that is as it was is apart from the call, keeps its facts, and so its seat
   module _ (k : ℕ) (d : k ≡ caller c → ⊥) (same : at ts k ≡ thread-of (w .engine) k) where
     apart : (is-running (thread-of (w .engine) k .phase) ≡ true) ⊎ (is-sealed (thread-of (w .engine) k .phase) ≡ true) →
         Apart (w .engine .set-up) ws (h .updaters) (h .updaters) (front (w .engine)) (front (w .engine)) (owner-of (w .engine)) (owner-of after) k
@@ -181,13 +182,13 @@ module _ (leader-beats : Leader-beats) (ws : List ℕ) (base : ℕ) (w : World) 
   -- a leader is beaten by nobody
   leader-unbeaten : (k : ℕ) → (k ≡ caller c → ⊥) → beats (caller c) k ≡ true → leads beats k (w .engine .set-up .threads) ≡ true → ⊥
   leader-unbeaten k d wins led =
-      let p = and-parts (leb 1 (caller c)) (leb (caller c) (w .engine .set-up .threads)) member in
+      let p = and-parts (leb 1 (caller c)) (leb (caller c) (w .engine .set-up .threads)) (running-member ws base w h (caller c) f run) in
       both-ways (beats (caller c) k)
       (leader-beats beats k (caller c) (w .engine .set-up .threads) led (leb-true 1 (caller c) (p .0))
       (leb-true (caller c) (w .engine .set-up .threads) (p .1)) (λ e. d (sym e)) .1)
       wins
 
-  -- a thread that was beaten is lost, and its fall is on record
+  -- a thread that was beaten is lost, and its fall is on record; it did not lead, so it is spared nothing
   module _ (k : ℕ) (d : k ≡ caller c → ⊥) (b : Beaten-by beats (caller c) k (thread-of (w .engine) k) (at ts k)) where
     abbrev fell : Transaction
     fell = record {
@@ -212,16 +213,13 @@ module _ (leader-beats : Leader-beats) (ws : List ℕ) (base : ℕ) (w : World) 
         subst (λ (y : Transaction). Seat (w .engine .set-up) ws (h .updaters) base (front (w .engine)) (owner-of after) k (at ts k) y) (sym present-fell)
         (record {
           named = f .seats k .named;
-          inside = λ e. absurd (never-idle (sym (b .ran) ∙ f .seats k .inside e));
+          inside = λ e. absurd (both-ways (is-thread (w .engine .set-up) k) e (running-member ws base w h k f (b .ran)));
           phase = subst (λ (p : Phase). Phase-fits (w .engine .set-up) ws (h .updaters) base (front (w .engine)) (owner-of after) k (at ts k) (fell .work) (fell .fall) p)
               (sym (b .stolen))
               (record { unnumbered = running-fits ws base w h k f (b .ran) .unnumbered; fall = _; fallen = refl });
           point = f .seats k .point;
           spared = λ led. leader-unbeaten k d (b .beaten) (and-parts (h .present k .led) (leads-at (w .engine .set-up) line k) led .1);
         })
-      where
-        never-idle : _≡_ {A = Phase} Running Idle → ⊥
-        never-idle e = let z : _≡_ {A = ℕ} 0 1 = cc in omega arith
 
   -- the caller's transaction has one call more
   abbrev went : Transaction
@@ -238,7 +236,7 @@ module _ (leader-beats : Leader-beats) (ws : List ℕ) (base : ℕ) (w : World) 
       subst (λ (y : Transaction). Seat (w .engine .set-up) ws (h .updaters) base (front (w .engine)) (owner-of after) (caller c) (at ts (caller c)) y) (sym present-went)
       (record {
         named = goes .thread (h .present (caller c) .work) ∙ f .seats (caller c) .named;
-        inside = λ e. absurd (both-ways (is-thread (w .engine .set-up) (caller c)) e member);
+        inside = λ e. absurd (both-ways (is-thread (w .engine .set-up) (caller c)) e (running-member ws base w h (caller c) f run));
         phase = subst (λ (p : Phase). Phase-fits (w .engine .set-up) ws (h .updaters) base (front (w .engine)) (owner-of after) (caller c) (at ts (caller c)) (went .work) (went .fall) p)
             (sym (x .running)) (x .fits);
         point = record {
@@ -251,6 +249,7 @@ module _ (leader-beats : Leader-beats) (ws : List ℕ) (base : ℕ) (w : World) 
         spared = subst (λ (o : Option Fall). Spared (w .engine .set-up) (h .updaters) (went .work) o) (sym (x .fits .standing)) tt;
       })
 
+  -- every thread's seat after the call
   seat-next : (k : ℕ) → Seat (w .engine .set-up) ws (h .updaters) base (front (w .engine)) (owner-of after) k (at ts k) (next .present k)
   seat-next k = go (cases-eq k (caller c))
     where

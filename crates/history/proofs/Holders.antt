@@ -18,13 +18,14 @@ use Rattle.rules.specs.declared.phase.Phase.the-variants.{Idle, Running, Sealed
 use Rattle.std.proofs.shelf.Tests.{and-cases, and-right, eqb-true, not-false}
 use Rattle.std.specs.declared.option.Option.the-variants.{None}
 
--- a thread holds its stripes exactly where it is sealed
+-- a thread that is not sealed holds nothing
 pub hold-unsealed : (es : List WriteEntry) (p : Phase) → is-sealed p ≡ false → hold-in es p ≡ None
 hold-unsealed es Idle e = refl
 hold-unsealed es Running e = refl
 hold-unsealed es (Sealed t d) e = absurd (let z : _≡_ {A = ℕ} 0 1 = cc in omega arith)
 hold-unsealed es (Lost l) e = refl
 
+-- and one that holds nothing is not sealed
 pub unsealed-hold : (es : List WriteEntry) (p : Phase) → hold-in es p ≡ None → is-sealed p ≡ false
 unsealed-hold es Idle e = refl
 unsealed-hold es Running e = refl
@@ -33,10 +34,6 @@ unsealed-hold es (Lost l) e = refl
 
 module _ (ws : List ℕ) (base : ℕ) (w : World) (h : History) (n s : ℕ) (f : Fits ws base w h)
     (run : thread-of (w .engine) n .phase ≡ Running) where
-  -- there is no thread 0
-  pub none-idle : thread-of (w .engine) 0 .phase ≡ Idle
-  none-idle = f .seats 0 .inside refl
-
   -- a stripe that is not busy for a running thread shows no hold
   pub free-hold : busy (w .engine) n s ≡ false → front (w .engine) s .hold ≡ None
   free-hold free = go (and-cases (is-other n o) (is-sealed (thread-of (w .engine) o .phase)) free)
@@ -48,7 +45,7 @@ module _ (ws : List ℕ) (base : ℕ) (w : World) (h : History) (n s : ℕ) (f :
       holds-at k e p q x = ap (λ (j : ℕ). hold-of (thread-of (w .engine) j)) e ∙ hold-none (thread-of (w .engine) k) p q x
 
       own : (not (eqb o 0) ≡ false) ⊎ (not (eqb o n) ≡ false) → hold-of (thread-of (w .engine) o) ≡ None
-      own (inl e) = holds-at 0 (eqb-true o 0 (not-false (eqb o 0) e)) Idle none-idle refl
+      own (inl e) = holds-at 0 (eqb-true o 0 (not-false (eqb o 0) e)) Idle (f .seats 0 .inside refl) refl
       own (inr e) = holds-at n (eqb-true o n (not-false (eqb o n) e)) Running run refl
 
       go : (is-other n o ≡ false) ⊎ (is-sealed (thread-of (w .engine) o .phase) ≡ false) → hold-of (thread-of (w .engine) o) ≡ None

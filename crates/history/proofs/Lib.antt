@@ -15,6 +15,7 @@ pub mod Plan
 pub mod Quiet
 pub mod ReadLogs
 pub mod Refusals
+pub mod Running
 pub mod Seats
 pub mod Store
 pub mod Wins

@@ -11,7 +11,7 @@ use Rattle.common.specs.declared.loss.Loss.the-variants.{Invalid}
 use Rattle.common.specs.declared.refusal.Refusal.{Refusal}
 use Rattle.common.specs.declared.refusal.Refusal.the-variants.{NoSuchPlace, LogFull, StripeBusy}
 use Rattle.contention.specs.Events.{Event, word-loaded}
-use Rattle.history.proofs.Entries.{has-before, has-pushed}
+use Rattle.history.proofs.Entries.{grown-roomy, has-before, has-pushed}
 use Rattle.history.proofs.GoingOn.{Left-or-beaten, goes-on-keeps}
 use Rattle.history.proofs.Holders.{free-hold}
 use Rattle.history.proofs.Invariant.{Fits, Front, Mark-fits, Running-fits, front}
@@ -20,9 +20,10 @@ use Rattle.history.proofs.Maps.{at-put-same, at-put-other}
 use Rattle.history.proofs.Phases.{Admitted, admitted-parts, running-phase}
 use Rattle.history.proofs.Plan.{Kept, Leader-beats, Load-keeps, Log-finds-kept, Lost-keeps}
 use Rattle.history.proofs.Quiet.{quiet-outcome}
-use Rattle.history.proofs.ReadLogs.{free-word-agrees, invalid-excuses, refresh-agrees, running-fits}
+use Rattle.history.proofs.ReadLogs.{free-word-agrees, invalid-excuses, refresh-agrees}
 use Rattle.history.proofs.Refusals.{refused-keeps}
-use Rattle.history.proofs.Wins.{Refreshed, Won, contend-keeps, threaded}
+use Rattle.history.proofs.Running.{running-fits}
+use Rattle.history.proofs.Wins.{Refreshed, Won, contend-keeps, threaded, won-then}
 use Rattle.history.specs.Law.{Loads-at, words-at}
 use Rattle.history.specs.Record.{History, Work, Fall, called-load}
 use Rattle.history.specs.Serial.{kept, seen, word-or}
@@ -30,9 +31,9 @@ use Rattle.layout.specs.Lookups.{first-with, has-key}
 use Rattle.layout.specs.SetUps.{stripe-of}
 use Rattle.layout.specs.declared.entries.WriteEntry.{WriteEntry}
 use Rattle.layout.specs.declared.set_up.SetUp.{SetUp}
-use Rattle.rules.specs.Admission.{admitted, is-thread}
+use Rattle.rules.specs.Admission.{admitted}
 use Rattle.rules.specs.Conflicts.{busy, first-invalid, owner-of, recheck, rechecked, refresh}
-use Rattle.rules.specs.Load.{capacity, grown, has-read, is-full, load-admitted, load-free, load-fresh, load-logged, load-placed, load-roomy, load-won, written}
+use Rattle.rules.specs.Load.{grown, has-read, is-full, load-admitted, load-free, load-fresh, load-logged, load-placed, load-roomy, load-won, written}
 use Rattle.rules.specs.Maps.{Map, at, put}
 use Rattle.rules.specs.Outcomes.{Table, goes}
 use Rattle.rules.specs.States.{ReadMark, Thread, World, stripe-at, thread-of, with-phase, with-reads, with-snapshot}
@@ -41,7 +42,7 @@ use Rattle.rules.specs.declared.call.Call.the-variants.{Load}
 use Rattle.rules.specs.declared.kind.Kind.the-variants.{Load as Loading}
 use Rattle.rules.specs.declared.phase.Phase.the-variants.{Running, Lost}
 use Rattle.std.proofs.shelf.Elements.{all-push, all-weaker}
-use Rattle.std.proofs.shelf.Tests.{cond-true, leb-false, lt-ltb, ltb-false, ltb-true}
+use Rattle.std.proofs.shelf.Tests.{ltb-false, ltb-true}
 use Rattle.std.specs.declared.option.Option.{Option}
 use Rattle.std.specs.declared.option.Option.the-variants.{Some, None}
 use Rattle.std.specs.declared.result.Result.{Result}
@@ -68,6 +69,7 @@ record Answered (u : SetUp) (ws : List ℕ) (us : List Work) (base : ℕ) (fs : 
   more : (s : ℕ) → has-key (λ e. e .stripe) s (t .reads) ≡ true → has-key (λ e. e .stripe) s rs ≡ true
   marks : All (λ e. Mark-fits u us n (w .begun) end (fs (e .stripe)) e) rs
 
+-- such a transaction runs on, with one loaded word more
 answered-fits : (u : SetUp) (ws : List ℕ) (us : List Work) (base : ℕ) (fs : ℕ → Front) (owner : ℕ → ℕ) (n a v end : ℕ)
     (t : Thread) (w : Work) (f : Option Fall) (rs : List ReadMark) → Running-fits u ws us base fs owner n t w f →
     Answered u ws us base fs n a v end t w rs →
@@ -88,7 +90,7 @@ answered-fits u ws us base fs owner n a v end t w f rs r x = record {
 }
 
 module _ (leader-beats : Leader-beats) (ws : List ℕ) (base : ℕ) (w : World) (h : History) (beats : Table) (n a : ℕ)
-    (f : Fits ws base w h) (run : thread-of (w .engine) n .phase ≡ Running) (member : is-thread (w .engine .set-up) n ≡ true) where
+    (f : Fits ws base w h) (run : thread-of (w .engine) n .phase ≡ Running) where
   -- a load that is answered
   answered-keeps : (v end : ℕ) (rs : List ReadMark) (es : List Event) (ts : Map Thread) →
       at ts n ≡ read-on (thread-of (w .engine) n) end rs →
@@ -97,7 +99,7 @@ module _ (leader-beats : Leader-beats) (ws : List ℕ) (base : ℕ) (w : World) 
       Kept ws base w h beats (Load n a) (quiet-outcome w (Word v) es (threaded (w .engine) ts))
   answered-keeps v end rs es ts own others x =
       goes-on-keeps leader-beats ws base w h beats (Load n a) (Word v) es (called-load (Load n a) (length (h .updaters)) v)
-      (w .engine .mark) (w .engine .stripes) ts f run member
+      (w .engine .mark) (w .engine .stripes) ts f run
       (record { acts = λ t. refl; thread = λ y. refl; updaters = λ y us. refl; past = λ t us. refl; told = refl })
       (record {
         others = others;
@@ -137,7 +139,7 @@ module _ (leader-beats : Leader-beats) (ws : List ℕ) (base : ℕ) (w : World) 
             (thread-of (w .engine) n) (h .present n .work) (h .present n .fall)
         r = running-fits ws base w h n f run
 
-    -- the snapshot end when a stripe was found not to be newer than it, or the read log was checked
+    -- a load from a stripe that no sealed thread holds, at a snapshot end that its version does not pass
     module _ (s end : ℕ) (here : stripe-of (w .engine .set-up) a ≡ s) (inside : a < length (w .words))
         (logless : written (thread-of (w .engine) n) a ≡ None) (free : front (w .engine) s .hold ≡ None)
         (later : thread-of (w .engine) n .snapshot ≤ end) (fresh : stripe-at (w .engine) s .version ≤ end)
@@ -173,6 +175,7 @@ module _ (leader-beats : Leader-beats) (ws : List ℕ) (base : ℕ) (w : World) 
         marks = marks;
       }
 
+      -- the read entry of the stripe
       abbrev mark : ReadMark
       mark = record { stripe = s; version = stripe-at (w .engine) s .version }
 
@@ -190,8 +193,8 @@ module _ (leader-beats : Leader-beats) (ws : List ℕ) (base : ℕ) (w : World) 
       noted-keeps ts es roomy won =
           answered-keeps (getD (w .words) a 0) end (thread-of (w .engine) n .reads ++ mark ∷ []) (word-loaded n ∷ es) (put ts n noted)
           (at-put-same ts n noted ∙ ap (λ (t : Thread). with-reads t (grown (t .reads) mark)) (won .own)
-          ∙ ap (λ (rs : List ReadMark). read-on (thread-of (w .engine) n) end rs) room)
-          (λ k d. subst (λ (t : Thread). Left-or-beaten beats n k (thread-of (w .engine) k) t) (sym (at-put-other ts n k noted d)) (won .others k d))
+          ∙ ap (λ (rs : List ReadMark). read-on (thread-of (w .engine) n) end rs) (grown-roomy (thread-of (w .engine) n .reads) mark roomy))
+          (won-then beats (w .engine) n s end ts noted won)
           (answered-stored (thread-of (w .engine) n .reads ++ mark ∷ []) (has-pushed (λ e. e .stripe) s (thread-of (w .engine) n .reads) mark refl)
           (λ x has. has-before (λ e. e .stripe) x (thread-of (w .engine) n .reads) mark has)
           (all-push (λ e. Mark-fits (w .engine .set-up) (h .updaters) n (h .present n .work .begun) end (front (w .engine) (e .stripe)) e)
@@ -200,10 +203,7 @@ module _ (leader-beats : Leader-beats) (ws : List ℕ) (base : ℕ) (w : World) 
           noted : Thread
           noted = with-reads (at ts n) (grown (at ts n .reads) mark)
 
-          room : grown (thread-of (w .engine) n .reads) mark ≡ thread-of (w .engine) n .reads ++ mark ∷ []
-          room = cond-true (ltb (length (thread-of (w .engine) n .reads)) capacity) (thread-of (w .engine) n .reads ++ mark ∷ []) (thread-of (w .engine) n .reads)
-              (lt-ltb (length (thread-of (w .engine) n .reads)) capacity (leb-false capacity (length (thread-of (w .engine) n .reads)) roomy))
-
+      -- the stripe is won: known before or not
       won-keeps : (known : Bool) → has-read (thread-of (w .engine) n) s ≡ known → (not known && is-full (thread-of (w .engine) n .reads)) ≡ false →
           (ts : Map Thread) (es : List Event) → Won beats (w .engine) n s end ts →
           Kept ws base w h beats (Load n a) (load-won w n a s known (goes (threaded (w .engine) ts) es))
@@ -220,12 +220,14 @@ module _ (leader-beats : Leader-beats) (ws : List ℕ) (base : ℕ) (w : World) 
 -- the checks of a load, one after another
 module _ (lost-keeps : Lost-keeps) (leader-beats : Leader-beats) (log-finds-kept : Log-finds-kept)
     (ws : List ℕ) (base : ℕ) (w : World) (h : History) (beats : Table) (n a : ℕ) (f : Fits ws base w h) where
+  -- the stripe of the address
   abbrev loaded-stripe : ℕ
   loaded-stripe = stripe-of (w .engine .set-up) a
 
-  module _ (run : thread-of (w .engine) n .phase ≡ Running) (member : is-thread (w .engine .set-up) n ≡ true) (inside : a < length (w .words))
+  module _ (run : thread-of (w .engine) n .phase ≡ Running) (inside : a < length (w .words))
       (logless : written (thread-of (w .engine) n) a ≡ None) (known : Bool) (e : has-read (thread-of (w .engine) n) loaded-stripe ≡ known)
       (roomy : (not known && is-full (thread-of (w .engine) n .reads)) ≡ false) where
+    -- the transaction as it was
     r : Running-fits (w .engine .set-up) ws (h .updaters) base (front (w .engine)) (owner-of (w .engine)) n
         (thread-of (w .engine) n) (h .present n .work) (h .present n .fall)
     r = running-fits ws base w h n f run
@@ -235,7 +237,7 @@ module _ (lost-keeps : Lost-keeps) (leader-beats : Leader-beats) (log-finds-kept
       old-keeps : stripe-at (w .engine) loaded-stripe .version ≤ thread-of (w .engine) n .snapshot →
           Kept ws base w h beats (Load n a) (load-fresh beats w n a loaded-stripe known (goes (w .engine) []))
       old-keeps old =
-          fresh-keeps leader-beats ws base w h beats n a f run member log-finds-kept loaded-stripe (thread-of (w .engine) n .snapshot) refl inside logless free
+          fresh-keeps leader-beats ws base w h beats n a f run log-finds-kept loaded-stripe (thread-of (w .engine) n .snapshot) refl inside logless free
           (omega arith) old (omega (arith, r .by-last-load, r .so-far)) (r .loads)
           lost-keeps known e roomy (w .engine .threads) (record { own = refl; others = λ k d. refl }) []
 
@@ -246,7 +248,7 @@ module _ (lost-keeps : Lost-keeps) (leader-beats : Leader-beats) (log-finds-kept
       checked-keeps newer valid =
           let by-clock : stripe-at (w .engine) loaded-stripe .version ≤ w .engine .clock =
               omega (arith, f .stripes loaded-stripe .rises, f .stripes loaded-stripe .by-clock) in
-          fresh-keeps leader-beats ws base w h beats n a f run member log-finds-kept loaded-stripe (w .engine .clock) refl inside logless free
+          fresh-keeps leader-beats ws base w h beats n a f run log-finds-kept loaded-stripe (w .engine .clock) refl inside logless free
           (omega (arith, newer, by-clock)) by-clock (omega (arith, f .count))
           (subst (λ (m : ℕ). Loads-at ws (h .updaters) m (h .present n .work)) (f .count) (refresh-agrees ws base w h n f run valid))
           lost-keeps known e roomy (put (w .engine .threads) n (with-snapshot (thread-of (w .engine) n) (w .engine .clock)))
@@ -268,6 +270,7 @@ module _ (lost-keeps : Lost-keeps) (leader-beats : Leader-beats) (log-finds-kept
           overtaken : Thread
           overtaken = with-phase (thread-of (w .engine) n) (Lost (Invalid x))
 
+      -- whichever it is
       refresh-keeps : Kept ws base w h beats (Load n a) (load-fresh beats w n a loaded-stripe known (refresh (w .engine) n loaded-stripe))
       refresh-keeps = go (ltb (thread-of (w .engine) n .snapshot) (stripe-at (w .engine) loaded-stripe .version)) refl
         where
@@ -279,38 +282,46 @@ module _ (lost-keeps : Lost-keeps) (leader-beats : Leader-beats) (log-finds-kept
 
           go : (b : Bool) → ltb (thread-of (w .engine) n .snapshot) (stripe-at (w .engine) loaded-stripe .version) ≡ b →
               Kept ws base w h beats (Load n a) (load-fresh beats w n a loaded-stripe known (cond b (recheck (w .engine) n) (goes (w .engine) [])))
-          go true p = check (ltb-true (thread-of (w .engine) n .snapshot) (stripe-at (w .engine) loaded-stripe .version) p) (first-invalid (w .engine) n (thread-of (w .engine) n .reads)) refl
+          go true p =
+              check (ltb-true (thread-of (w .engine) n .snapshot) (stripe-at (w .engine) loaded-stripe .version) p)
+              (first-invalid (w .engine) n (thread-of (w .engine) n .reads)) refl
           go false p = old-keeps (ltb-false (thread-of (w .engine) n .snapshot) (stripe-at (w .engine) loaded-stripe .version) p)
 
+    -- the stripe is busy or not
     free-keeps : (b : Bool) → busy (w .engine) n loaded-stripe ≡ b → Kept ws base w h beats (Load n a) (load-free beats w n a loaded-stripe known b)
     free-keeps true p = refused-keeps ws base w h beats (Load n a) StripeBusy f
     free-keeps false p = refresh-keeps (free-hold ws base w h n loaded-stripe f run p)
 
-  roomy-keeps : thread-of (w .engine) n .phase ≡ Running → is-thread (w .engine .set-up) n ≡ true → a < length (w .words) →
+  -- the read log has room for it or not
+  roomy-keeps : thread-of (w .engine) n .phase ≡ Running → a < length (w .words) →
       written (thread-of (w .engine) n) a ≡ None → (known : Bool) → has-read (thread-of (w .engine) n) loaded-stripe ≡ known →
       (b : Bool) → (not known && is-full (thread-of (w .engine) n .reads)) ≡ b →
       Kept ws base w h beats (Load n a) (load-roomy beats w n a loaded-stripe known b)
-  roomy-keeps run member inside logless known e true p = refused-keeps ws base w h beats (Load n a) LogFull f
-  roomy-keeps run member inside logless known e false p =
-      free-keeps run member inside logless known e p (busy (w .engine) n loaded-stripe) refl
+  roomy-keeps run inside logless known e true p = refused-keeps ws base w h beats (Load n a) LogFull f
+  roomy-keeps run inside logless known e false p =
+      free-keeps run inside logless known e p (busy (w .engine) n loaded-stripe) refl
 
-  logged-keeps : thread-of (w .engine) n .phase ≡ Running → is-thread (w .engine .set-up) n ≡ true → a < length (w .words) →
+  -- the address is in the write log or not
+  logged-keeps : thread-of (w .engine) n .phase ≡ Running → a < length (w .words) →
       (o : Option WriteEntry) → written (thread-of (w .engine) n) a ≡ o → Kept ws base w h beats (Load n a) (load-logged beats w n a o)
-  logged-keeps run member inside (Some e) p = own-log-keeps leader-beats ws base w h beats n a f run member log-finds-kept e p
-  logged-keeps run member inside None p =
-      roomy-keeps run member inside p (has-read (thread-of (w .engine) n) loaded-stripe) refl
+  logged-keeps run inside (Some e) p = own-log-keeps leader-beats ws base w h beats n a f run log-finds-kept e p
+  logged-keeps run inside None p =
+      roomy-keeps run inside p (has-read (thread-of (w .engine) n) loaded-stripe) refl
       (not (has-read (thread-of (w .engine) n) loaded-stripe) && is-full (thread-of (w .engine) n .reads)) refl
 
+  -- there is such an address or not
   placed-keeps : Admitted (w .engine) Loading n → (b : Bool) → ltb a (length (w .words)) ≡ b → Kept ws base w h beats (Load n a) (load-placed beats w n a b)
   placed-keeps x false p = refused-keeps ws base w h beats (Load n a) NoSuchPlace f
   placed-keeps x true p =
-      logged-keeps (running-phase (thread-of (w .engine) n .phase) (x .fits)) (x .inside) (ltb-true a (length (w .words)) p)
+      logged-keeps (running-phase (thread-of (w .engine) n .phase) (x .fits)) (ltb-true a (length (w .words)) p)
       (written (thread-of (w .engine) n) a) refl
 
+  -- the thread may load or not
   admitted-keeps : (r : Result (Unit {0}) Refusal) → admitted (w .engine) Loading n ≡ r → Kept ws base w h beats (Load n a) (load-admitted beats w n a r)
   admitted-keeps (Err r) p = refused-keeps ws base w h beats (Load n a) r f
   admitted-keeps (Ok x) p = placed-keeps (admitted-parts (w .engine) Loading n x p) (ltb a (length (w .words))) refl
 
+-- a load keeps everything, whatever it meets
 pub load-keeps : Lost-keeps → Leader-beats → Log-finds-kept → Load-keeps
 load-keeps lost-keeps leader-beats log-finds-kept ws base w h beats n a f =
     admitted-keeps lost-keeps leader-beats log-finds-kept ws base w h beats n a f (admitted (w .engine) Loading n) refl

@@ -9,9 +9,9 @@ use mathlib.Core.Path.{_≡_, refl, ap, sym, subst, _∙_}
 use native.Mathlib.Omega.{arith}
 use Rattle.history.proofs.Entries.{all-both, keyed}
 use Rattle.history.proofs.Holders.{free-hold, held-none-free}
-use Rattle.history.proofs.Invariant.{Fits, Hold, Mark-fits, Overtaken, Running-fits, front, left-of, stores-in, top, top-of}
-use Rattle.history.proofs.Phases.{fits-running}
+use Rattle.history.proofs.Invariant.{Fits, Hold, Mark-fits, Overtaken, front, left-of, stores-in, top, top-of}
 use Rattle.history.proofs.Plan.{Free-word-agrees, Refresh-agrees, Invalid-excuses}
+use Rattle.history.proofs.Running.{running-fits}
 use Rattle.history.specs.Law.{updater, words-at}
 use Rattle.history.specs.Record.{History, Work}
 use Rattle.history.specs.Serial.{kept, loaded-on, moved-into, serial-run, put-in}
@@ -19,7 +19,7 @@ use Rattle.layout.specs.Lookups.{has-key}
 use Rattle.layout.specs.SetUps.{stripe-of}
 use Rattle.layout.specs.declared.entries.WriteEntry.{WriteEntry}
 use Rattle.layout.specs.declared.set_up.SetUp.{SetUp}
-use Rattle.rules.specs.Conflicts.{busy, first-invalid, is-valid, owner-of}
+use Rattle.rules.specs.Conflicts.{busy, first-invalid, is-valid}
 use Rattle.rules.specs.States.{State, World, ReadMark, thread-of, stripe-at}
 use Rattle.rules.specs.declared.phase.Phase.the-variants.{Running}
 use Rattle.std.proofs.shelf.Elements.{all-weaker}
@@ -40,7 +40,7 @@ module _ (u : SetUp) (s a : ℕ) (here : stripe-of u a ≡ s) where
       (λ q. eqb-false (stripe-of u (x .address)) s (p .0) (ap (stripe-of u) (sym q) ∙ here))
       ∙ moved-elsewhere ws xs (p .1)
 
-  -- and so do the updaters from a moment on, if none of them stored in its stripe
+  -- and so do updaters of which none stored in its stripe
   run-elsewhere : (ws : List ℕ) (us : List Work) → ((k : ℕ) → k < length us → stores-in u s (updater us k) ≡ false) →
       getD (serial-run ws us) a 0 ≡ getD ws a 0
   run-elsewhere ws [] none = refl
@@ -48,6 +48,7 @@ module _ (u : SetUp) (s a : ℕ) (here : stripe-of u a ≡ s) where
       run-elsewhere (moved-into ws (kept (w .calls))) us (λ k l. none (suc k) (omega arith))
       ∙ moved-elsewhere ws (kept (w .calls)) (none 0 (omega arith))
 
+  -- so a word is what it was at a moment since which no updater stored in its stripe
   since-moment : (ws : List ℕ) (us : List Work) (m : ℕ) →
       ((k : ℕ) → m ≤ k → k < length us → stores-in u s (updater us k) ≡ false) →
       getD (serial-run ws us) a 0 ≡ getD (words-at ws us m) a 0
@@ -72,6 +73,7 @@ module _ (ws : List ℕ) (base : ℕ) (w : World) (h : History) (f : Fits ws bas
   word-stored a l free =
       f .words a l ∙ ap (λ (x : Option Hold). getD (put-in (w .words) (left-of x)) a 0) free
 
+-- the stored word of such a stripe is what a transaction loads at a moment from its version on
 pub free-word-agrees : Free-word-agrees
 free-word-agrees ws base w h a m f l free low high =
     sym (word-stays ws base w h f (stripe-of (w .engine .set-up) a) a m refl free low) ∙ word-stored ws base w h f a l free
@@ -101,13 +103,6 @@ invalid-entry st n s P (e ∷ es) all x = go (is-valid st n e) refl x (invalid-e
 
 module _ (ws : List ℕ) (base : ℕ) (w : World) (h : History) (n : ℕ) (f : Fits ws base w h)
     (run : thread-of (w .engine) n .phase ≡ Running) where
-  -- a running thread's transaction
-  pub running-fits : Running-fits (w .engine .set-up) ws (h .updaters) base (front (w .engine)) (owner-of (w .engine)) n
-      (thread-of (w .engine) n) (h .present n .work) (h .present n .fall)
-  running-fits =
-      fits-running (w .engine .set-up) ws (h .updaters) base (front (w .engine)) (owner-of (w .engine)) n (thread-of (w .engine) n)
-      (h .present n .work) (h .present n .fall) (thread-of (w .engine) n .phase) run (f .seats n .phase)
-
   -- the words of a valid entry's stripe are at the present moment what they were at the snapshot end
   valid-words : (a : ℕ) (e : ReadMark) → e .stripe ≡ stripe-of (w .engine .set-up) a → is-valid (w .engine) n e ≡ true →
       e .version ≤ thread-of (w .engine) n .snapshot →
@@ -119,20 +114,26 @@ module _ (ws : List ℕ) (base : ℕ) (w : World) (h : History) (n : ℕ) (f : F
       (free-hold ws base w h n (e .stripe) f run (not-true (busy (w .engine) n (e .stripe)) (p .1)))
       (omega (arith, v, old))
 
+  -- so with valid entries only the loads agree at the present moment
+  abbrev Valid-old : ReadMark → Type 0
+  Valid-old e = (is-valid (w .engine) n e ≡ true) × (e .version ≤ thread-of (w .engine) n .snapshot)
+
   present-loads : All (λ e. is-valid (w .engine) n e ≡ true) (thread-of (w .engine) n .reads) →
       loaded-on (serial-run ws (h .updaters)) (h .present n .work .calls) ≡ h .present n .work .loaded
   present-loads valid =
-      running-fits .covered (serial-run ws (h .updaters)) (words-at ws (h .updaters) (base + thread-of (w .engine) n .snapshot))
-      (λ a has. agrees a (keyed (λ (e : ReadMark). e .stripe) (stripe-of (w .engine .set-up) a) (λ e. (is-valid (w .engine) n e ≡ true) × (e .version ≤ thread-of (w .engine) n .snapshot)) (thread-of (w .engine) n .reads) old has))
-      ∙ running-fits .loads
+      running-fits ws base w h n f run .covered
+      (serial-run ws (h .updaters)) (words-at ws (h .updaters) (base + thread-of (w .engine) n .snapshot))
+      (λ a has. agrees a (keyed (λ (e : ReadMark). e .stripe) (stripe-of (w .engine .set-up) a) Valid-old (thread-of (w .engine) n .reads) old has))
+      ∙ running-fits ws base w h n f run .loads
     where
-      agrees : (a : ℕ) → (e : ReadMark) × (e .stripe ≡ stripe-of (w .engine .set-up) a) × ((is-valid (w .engine) n e ≡ true) × (e .version ≤ thread-of (w .engine) n .snapshot)) →
+      agrees : (a : ℕ) → (e : ReadMark) × (e .stripe ≡ stripe-of (w .engine .set-up) a) × Valid-old e →
           getD (serial-run ws (h .updaters)) a 0 ≡ getD (words-at ws (h .updaters) (base + thread-of (w .engine) n .snapshot)) a 0
       agrees a x = valid-words a (x .0) (x .1) (x .2 .0) (x .2 .1)
 
-      old : All (λ e. (is-valid (w .engine) n e ≡ true) × (e .version ≤ thread-of (w .engine) n .snapshot)) (thread-of (w .engine) n .reads)
-      old = all-both (λ e. is-valid (w .engine) n e ≡ true) (λ e. e .version ≤ thread-of (w .engine) n .snapshot) (thread-of (w .engine) n .reads) valid
-          (all-weaker _ _ (λ e m. m .old) (thread-of (w .engine) n .reads) (running-fits .marks))
+      old : All Valid-old (thread-of (w .engine) n .reads)
+      old =
+          all-both (λ e. is-valid (w .engine) n e ≡ true) (λ e. e .version ≤ thread-of (w .engine) n .snapshot) (thread-of (w .engine) n .reads) valid
+          (all-weaker _ _ (λ e m. m .old) (thread-of (w .engine) n .reads) (running-fits ws base w h n f run .marks))
 
   -- an entry that is no longer as it was read was overtaken
   invalid-overtaken : (e : ReadMark) → is-valid (w .engine) n e ≡ false →
@@ -140,7 +141,8 @@ module _ (ws : List ℕ) (base : ℕ) (w : World) (h : History) (n : ℕ) (f : F
       Overtaken (w .engine .set-up) (h .updaters) n (h .present n .work .begun) (e .stripe)
   invalid-overtaken e bad m = go (m .state)
     where
-      go : ((stripe-at (w .engine) (e .stripe) .version ≡ e .version) × (front (w .engine) (e .stripe) .hold ≡ None)) ⊎ Overtaken (w .engine .set-up) (h .updaters) n (h .present n .work .begun) (e .stripe) →
+      go : ((stripe-at (w .engine) (e .stripe) .version ≡ e .version) × (front (w .engine) (e .stripe) .hold ≡ None))
+          ⊎ Overtaken (w .engine .set-up) (h .updaters) n (h .present n .work .begun) (e .stripe) →
           Overtaken (w .engine .set-up) (h .updaters) n (h .present n .work .begun) (e .stripe)
       go (inl x) = absurd (both-ways (is-valid (w .engine) n e) bad
           (and-from (eqb (stripe-at (w .engine) (e .stripe) .version) (e .version)) (not (busy (w .engine) n (e .stripe)))
@@ -148,11 +150,13 @@ module _ (ws : List ℕ) (base : ℕ) (w : World) (h : History) (n : ℕ) (f : F
           (not-from-false (busy (w .engine) n (e .stripe)) (held-none-free (w .engine) n (e .stripe) (x .1)))))
       go (inr x) = x
 
+-- a read log with no invalid entry lets the snapshot end be the present moment
 pub refresh-agrees : Refresh-agrees
 refresh-agrees ws base w h n f run none =
     ap (λ (us : List Work). loaded-on (serial-run ws us) (h .present n .work .calls)) (take-all (length (h .updaters)) (h .updaters) (omega arith))
     ∙ present-loads ws base w h n f run (valid-entries (w .engine) n (thread-of (w .engine) n .reads) none)
 
+-- and one with an invalid entry excuses a leader's loss
 pub invalid-excuses : Invalid-excuses
 invalid-excuses ws base w h n s f run some =
     let x = invalid-entry (w .engine) n s

@@ -9,7 +9,7 @@ use mathlib.Core.Path.{_≡_, refl, ap, sym, subst, _∙_}
 use Rattle.common.specs.declared.refusal.Refusal.{Refusal}
 use Rattle.common.specs.declared.refusal.Refusal.the-variants.{NoSuchPlace, LogFull, StripeBusy}
 use Rattle.contention.specs.Events.{Event, stripe-taken}
-use Rattle.history.proofs.Entries.{has-replaced, pushed-cases}
+use Rattle.history.proofs.Entries.{grown-roomy, has-replaced, pushed-cases}
 use Rattle.history.proofs.GoingOn.{Left-or-beaten, Taken-by, goes-on-keeps}
 use Rattle.history.proofs.Holders.{free-hold}
 use Rattle.history.proofs.Invariant.{Fits, Front, Running-fits, front, stores-in}
@@ -18,18 +18,18 @@ use Rattle.history.proofs.Maps.{at-put-same, at-put-other}
 use Rattle.history.proofs.Phases.{Admitted, admitted-parts, running-phase}
 use Rattle.history.proofs.Plan.{Kept, Leader-beats, Lost-keeps, Store-keeps}
 use Rattle.history.proofs.Quiet.{quiet-outcome, quiet-state}
-use Rattle.history.proofs.ReadLogs.{running-fits}
 use Rattle.history.proofs.Refusals.{refused-keeps}
-use Rattle.history.proofs.Wins.{Won, contend-keeps, threaded}
+use Rattle.history.proofs.Running.{running-fits}
+use Rattle.history.proofs.Wins.{Won, contend-keeps, threaded, won-then}
 use Rattle.history.specs.Record.{History, Work, Fall, called}
 use Rattle.history.specs.Serial.{write-log}
 use Rattle.layout.specs.Lookups.{has-key, replaced}
 use Rattle.layout.specs.SetUps.{stripe-of}
 use Rattle.layout.specs.declared.entries.WriteEntry.{WriteEntry}
 use Rattle.layout.specs.declared.set_up.SetUp.{SetUp}
-use Rattle.rules.specs.Admission.{admitted, is-running, is-thread}
+use Rattle.rules.specs.Admission.{admitted, is-running}
 use Rattle.rules.specs.Conflicts.{busy, owner-of}
-use Rattle.rules.specs.Load.{capacity, grown, is-full}
+use Rattle.rules.specs.Load.{grown, is-full}
 use Rattle.rules.specs.Maps.{Map, at, put}
 use Rattle.rules.specs.Outcomes.{Table, goes}
 use Rattle.rules.specs.States.{Stripe, Thread, World, stripe-at, thread-of, with-writes}
@@ -38,7 +38,7 @@ use Rattle.rules.specs.declared.answer.Answer.the-variants.{Done}
 use Rattle.rules.specs.declared.call.Call.the-variants.{Store}
 use Rattle.rules.specs.declared.kind.Kind.the-variants.{Store as Storing}
 use Rattle.rules.specs.declared.phase.Phase.the-variants.{Running}
-use Rattle.std.proofs.shelf.Tests.{cases-eq, cond-false, cond-true, eq-eqb, eqb-true, leb-false, lt-ltb, or-left, or-right}
+use Rattle.std.proofs.shelf.Tests.{cases-eq, cond-false, cond-true, eq-eqb, eqb-true, or-left, or-right}
 use Rattle.std.specs.declared.result.Result.{Result}
 use Rattle.std.specs.declared.result.Result.the-variants.{Ok, Err}
 use Rattle.std.specs.declared.option.Option.{Option}
@@ -53,6 +53,7 @@ record Logged (u : SetUp) (owner owner′ : ℕ → ℕ) (n a v : ℕ) (t : Thre
   gains : (s : ℕ) → owner′ s ≡ n → (owner s ≡ n) ⊎ (stripe-of u a ≡ s)
   owned : owner′ (stripe-of u a) ≡ n
 
+-- such a transaction runs on, with one store more
 logged-fits : (u : SetUp) (ws : List ℕ) (us : List Work) (base : ℕ) (fs : ℕ → Front) (owner owner′ : ℕ → ℕ) (n a v : ℕ)
     (t : Thread) (w : Work) (f : Option Fall) (es : List WriteEntry) → Running-fits u ws us base fs owner n t w f →
     Logged u owner owner′ n a v t w es →
@@ -81,7 +82,7 @@ logged-fits u ws us base fs owner owner′ n a v t w f es r x = record {
     stored s (inr e) = or-left (eqb (stripe-of u a) s) (stores-in u s w) (eq-eqb (stripe-of u a) s e)
 
 module _ (leader-beats : Leader-beats) (ws : List ℕ) (base : ℕ) (w : World) (h : History) (beats : Table) (n a v : ℕ)
-    (f : Fits ws base w h) (run : thread-of (w .engine) n .phase ≡ Running) (member : is-thread (w .engine .set-up) n ≡ true) where
+    (f : Fits ws base w h) (run : thread-of (w .engine) n .phase ≡ Running) where
   -- a store that is done
   logged-keeps : (log : List WriteEntry) (es : List Event) (ss : Map Stripe) (ts : Map Thread) →
       at ts n ≡ with-writes (thread-of (w .engine) n) log →
@@ -91,7 +92,7 @@ module _ (leader-beats : Leader-beats) (ws : List ℕ) (base : ℕ) (w : World) 
       Kept ws base w h beats (Store n a v) (quiet-outcome w Done es (quiet-state (w .engine) (w .engine .mark) ss ts))
   logged-keeps log es ss ts own others stripes x =
       goes-on-keeps leader-beats ws base w h beats (Store n a v) Done es (called (Store n a v))
-      (w .engine .mark) ss ts f run member
+      (w .engine .mark) ss ts f run
       (record { acts = λ t. refl; thread = λ y. refl; updaters = λ y us. refl; past = λ t us. refl; told = refl })
       (record {
         others = others;
@@ -137,6 +138,7 @@ module _ (leader-beats : Leader-beats) (ws : List ℕ) (base : ℕ) (w : World) 
   module _ (fresh : has-written (thread-of (w .engine) n) a ≡ false) (roomy : is-full (thread-of (w .engine) n .writes) ≡ false)
       (free : front (w .engine) (stripe-of (w .engine .set-up) a) .hold ≡ None) (ts : Map Thread)
       (won : Won beats (w .engine) n (stripe-of (w .engine .set-up) a) (thread-of (w .engine) n .snapshot) ts) where
+    -- the stripe, the log with the new entry, and the thread with it
     abbrev stored-stripe : ℕ
     stored-stripe = stripe-of (w .engine .set-up) a
 
@@ -146,19 +148,13 @@ module _ (leader-beats : Leader-beats) (ws : List ℕ) (base : ℕ) (w : World) 
     abbrev noted : Thread
     noted = with-writes (at ts n) (grown (at ts n .writes) (entry a v))
 
-    room : grown (thread-of (w .engine) n .writes) (entry a v) ≡ longer
-    room = cond-true (ltb (length (thread-of (w .engine) n .writes)) capacity) longer (thread-of (w .engine) n .writes)
-        (lt-ltb (length (thread-of (w .engine) n .writes)) capacity (leb-false capacity (length (thread-of (w .engine) n .writes)) roomy))
-
+    -- the caller's thread after the call
     own-noted : at (put ts n noted) n ≡ with-writes (thread-of (w .engine) n) longer
     own-noted =
         at-put-same ts n noted ∙ ap (λ (t : Thread). with-writes t (grown (t .writes) (entry a v))) (won .own)
-        ∙ ap (with-writes (thread-of (w .engine) n)) room
+        ∙ ap (with-writes (thread-of (w .engine) n)) (grown-roomy (thread-of (w .engine) n .writes) (entry a v) roomy)
 
-    others-noted : (k : ℕ) → (k ≡ n → ⊥) → Left-or-beaten beats n k (thread-of (w .engine) k) (at (put ts n noted) k)
-    others-noted k d = subst (λ (t : Thread). Left-or-beaten beats n k (thread-of (w .engine) k) t) (sym (at-put-other ts n k noted d)) (won .others k d)
-
-    -- the log with the new entry
+    -- its log is the one that its stores make
     log-noted : (owner′ : ℕ → ℕ) → ((s : ℕ) → owner-of (w .engine) s ≡ n → owner′ s ≡ n) →
         ((s : ℕ) → owner′ s ≡ n → (owner-of (w .engine) s ≡ n) ⊎ (stored-stripe ≡ s)) → owner′ stored-stripe ≡ n →
         Logged (w .engine .set-up) (owner-of (w .engine)) owner′ n a v (thread-of (w .engine) n) (h .present n .work) longer
@@ -176,17 +172,20 @@ module _ (leader-beats : Leader-beats) (ws : List ℕ) (base : ℕ) (w : World) 
     owned-keeps : (es : List Event) → owner-of (w .engine) stored-stripe ≡ n →
         Kept ws base w h beats (Store n a v) (store-taken w n stored-stripe es (note-write (threaded (w .engine) ts) n a v) true)
     owned-keeps es owned =
-        logged-keeps longer es (w .engine .stripes) (put ts n noted) own-noted others-noted (λ s. inl refl)
+        logged-keeps longer es (w .engine .stripes) (put ts n noted) own-noted
+        (won-then beats (w .engine) n stored-stripe (thread-of (w .engine) n .snapshot) ts noted won) (λ s. inl refl)
         (log-noted (owner-of (w .engine)) (λ s o. o) (λ s o. inl o) owned)
 
-    -- the stripe is taken
+    -- the stripe when it is taken
     abbrev claimed : Stripe
     claimed = record { version = stripe-at (w .engine) stored-stripe .version; owner = n }
 
+    -- its former owner does not run any more
     claimed-settled : (owner-of (w .engine) stored-stripe ≡ n → ⊥) → is-running (at (put ts n noted) (owner-of (w .engine) stored-stripe) .phase) ≡ false
     claimed-settled d =
         ap (λ (t : Thread). is-running (t .phase)) (at-put-other ts n (owner-of (w .engine) stored-stripe) noted d) ∙ won .settled d
 
+    -- only this stripe was taken
     claimed-stripes : (s : ℕ) → (s ≡ stored-stripe) ⊎ (s ≡ stored-stripe → ⊥) →
         (at (put (w .engine .stripes) stored-stripe claimed) s ≡ stripe-at (w .engine) s)
         ⊎ Taken-by (w .engine) n s (at (put (w .engine .stripes) stored-stripe claimed) s) (put ts n noted)
@@ -200,6 +199,7 @@ module _ (leader-beats : Leader-beats) (ws : List ℕ) (base : ℕ) (w : World) 
         }))
     claimed-stripes s (inr d) = inl (at-put-other (w .engine .stripes) stored-stripe s claimed d)
 
+    -- the caller keeps its stripes, and gains only this one
     claimed-keeps : (s : ℕ) → (s ≡ stored-stripe) ⊎ (s ≡ stored-stripe → ⊥) → owner-of (w .engine) s ≡ n →
         at (put (w .engine .stripes) stored-stripe claimed) s .owner ≡ n
     claimed-keeps s (inl e) o =
@@ -212,16 +212,19 @@ module _ (leader-beats : Leader-beats) (ws : List ℕ) (base : ℕ) (w : World) 
     claimed-gains s (inl e) o = inr (sym e)
     claimed-gains s (inr d) o = inl (ap (λ (x : Stripe). x .owner) (sym (at-put-other (w .engine .stripes) stored-stripe s claimed d)) ∙ o)
 
+    -- the stripe is taken
     taken-keeps : (es : List Event) →
         Kept ws base w h beats (Store n a v) (store-taken w n stored-stripe es (note-write (threaded (w .engine) ts) n a v) false)
     taken-keeps es =
-        logged-keeps longer (stripe-taken n ∷ es) (put (w .engine .stripes) stored-stripe claimed) (put ts n noted) own-noted others-noted
+        logged-keeps longer (stripe-taken n ∷ es) (put (w .engine .stripes) stored-stripe claimed) (put ts n noted) own-noted
+        (won-then beats (w .engine) n stored-stripe (thread-of (w .engine) n .snapshot) ts noted won)
         (λ s. claimed-stripes s (cases-eq s stored-stripe))
         (log-noted (λ s. at (put (w .engine .stripes) stored-stripe claimed) s .owner)
         (λ s o. claimed-keeps s (cases-eq s stored-stripe) o)
         (λ s o. claimed-gains s (cases-eq s stored-stripe) o)
         (ap (λ (x : Stripe). x .owner) (at-put-same (w .engine .stripes) stored-stripe claimed)))
 
+    -- whichever it is
     won-keeps : (es : List Event) → Kept ws base w h beats (Store n a v) (store-won w n a v stored-stripe (goes (threaded (w .engine) ts) es))
     won-keeps es = go (eqb (owner-of (w .engine) stored-stripe) n) refl
       where
@@ -233,7 +236,8 @@ module _ (leader-beats : Leader-beats) (ws : List ℕ) (base : ℕ) (w : World) 
 -- the checks of a store, one after another
 module _ (lost-keeps : Lost-keeps) (leader-beats : Leader-beats) (ws : List ℕ) (base : ℕ) (w : World) (h : History) (beats : Table)
     (n a v : ℕ) (f : Fits ws base w h) where
-  module _ (run : thread-of (w .engine) n .phase ≡ Running) (member : is-thread (w .engine .set-up) n ≡ true) where
+  module _ (run : thread-of (w .engine) n .phase ≡ Running) where
+    -- the stripe is busy or not
     free-keeps : has-written (thread-of (w .engine) n) a ≡ false → is-full (thread-of (w .engine) n .writes) ≡ false →
         (b : Bool) → busy (w .engine) n (stripe-of (w .engine .set-up) a) ≡ b →
         Kept ws base w h beats (Store n a v) (store-free beats w n a v (stripe-of (w .engine .set-up) a) b)
@@ -241,27 +245,32 @@ module _ (lost-keeps : Lost-keeps) (leader-beats : Leader-beats) (ws : List ℕ)
     free-keeps fresh roomy false p =
         contend-keeps lost-keeps leader-beats ws base w h beats (Store n a v) (stripe-of (w .engine .set-up) a) (thread-of (w .engine) n .snapshot)
         (w .engine .threads) f run (record { own = refl; others = λ k d. refl }) (store-won w n a v (stripe-of (w .engine .set-up) a)) (λ l st. refl)
-        (λ ts es won. won-keeps leader-beats ws base w h beats n a v f run member fresh roomy
+        (λ ts es won. won-keeps leader-beats ws base w h beats n a v f run fresh roomy
         (free-hold ws base w h n (stripe-of (w .engine .set-up) a) f run p) ts won es)
 
+    -- the write log has room or not
     roomy-keeps : has-written (thread-of (w .engine) n) a ≡ false → (b : Bool) → is-full (thread-of (w .engine) n .writes) ≡ b →
         Kept ws base w h beats (Store n a v) (store-roomy beats w n a v (stripe-of (w .engine .set-up) a) b)
     roomy-keeps fresh true p = refused-keeps ws base w h beats (Store n a v) LogFull f
     roomy-keeps fresh false p = free-keeps fresh p (busy (w .engine) n (stripe-of (w .engine .set-up) a)) refl
 
+    -- the address is in the write log or not
     entry-keeps : (b : Bool) → has-written (thread-of (w .engine) n) a ≡ b → Kept ws base w h beats (Store n a v) (store-logged beats w n a v b)
-    entry-keeps true p = rewrite-keeps leader-beats ws base w h beats n a v f run member p
+    entry-keeps true p = rewrite-keeps leader-beats ws base w h beats n a v f run p
     entry-keeps false p = roomy-keeps p (is-full (thread-of (w .engine) n .writes)) refl
 
+  -- there is such an address or not
   placed-keeps : Admitted (w .engine) Storing n → (b : Bool) → Kept ws base w h beats (Store n a v) (store-placed beats w n a v b)
   placed-keeps x false = refused-keeps ws base w h beats (Store n a v) NoSuchPlace f
   placed-keeps x true =
-      entry-keeps (running-phase (thread-of (w .engine) n .phase) (x .fits)) (x .inside) (has-written (thread-of (w .engine) n) a) refl
+      entry-keeps (running-phase (thread-of (w .engine) n .phase) (x .fits)) (has-written (thread-of (w .engine) n) a) refl
 
+  -- the thread may store or not
   admitted-keeps : (r : Result (Unit {0}) Refusal) → admitted (w .engine) Storing n ≡ r → Kept ws base w h beats (Store n a v) (store-admitted beats w n a v r)
   admitted-keeps (Err r) p = refused-keeps ws base w h beats (Store n a v) r f
   admitted-keeps (Ok x) p = placed-keeps (admitted-parts (w .engine) Storing n x p) (ltb a (length (w .words)))
 
+-- a store keeps everything, whatever it meets
 pub store-keeps : Lost-keeps → Leader-beats → Store-keeps
 store-keeps lost-keeps leader-beats ws base w h beats n a v f =
     admitted-keeps lost-keeps leader-beats ws base w h beats n a v f (admitted (w .engine) Storing n) refl

@@ -15,6 +15,7 @@ use Rattle.history.proofs.Maps.{at-put-same, at-put-other}
 use Rattle.history.proofs.Phases.{running-phase}
 use Rattle.history.proofs.Plan.{Kept, Leader-beats, Lost-keeps}
 use Rattle.history.proofs.Quiet.{quiet-state}
+use Rattle.history.proofs.Running.{running-member}
 use Rattle.history.specs.Record.{History, caller, leads}
 use Rattle.rules.specs.Admission.{is-running, is-thread}
 use Rattle.rules.specs.Conflicts.{clash, contend, contended, is-other, owner-of, rival}
@@ -22,9 +23,8 @@ use Rattle.rules.specs.Maps.{Map, at, put}
 use Rattle.rules.specs.Outcomes.{Outcome, Step, Table, goes, loses, lost}
 use Rattle.rules.specs.States.{State, Thread, World, lose, thread-of, with-phase, with-snapshot}
 use Rattle.rules.specs.declared.call.Call.{Call}
-use Rattle.rules.specs.declared.phase.Phase.{Phase}
 use Rattle.rules.specs.declared.phase.Phase.the-variants.{Idle, Running, Lost}
-use Rattle.std.proofs.shelf.Tests.{and-cases, and-parts, both-ways, cases-bool, cases-eq, eqb-true, eq-eqb, leb-true, not-false, not-true}
+use Rattle.std.proofs.shelf.Tests.{and-cases, and-parts, both-ways, cases-eq, eqb-true, eq-eqb, leb-true, not-false, not-true}
 use Rattle.std.specs.declared.option.Option.{Option}
 use Rattle.std.specs.declared.option.Option.the-variants.{Some, None}
 
@@ -43,12 +43,19 @@ pub record Won (beats : Table) (st : State) (n s end : ℕ) (ts : Map Thread) : 
   pub others : (k : ℕ) → (k ≡ n → ⊥) → Left-or-beaten beats n k (thread-of st k) (at ts k)
   pub settled : (owner-of st s ≡ n → ⊥) → is-running (at ts (owner-of st s) .phase) ≡ false
 
+-- and then one thing more of the winner changes
+pub won-then : (beats : Table) (st : State) (n s end : ℕ) (ts : Map Thread) (t : Thread) → Won beats st n s end ts →
+    (k : ℕ) → (k ≡ n → ⊥) → Left-or-beaten beats n k (thread-of st k) (at (put ts n t) k)
+won-then beats st n s end ts t won k d =
+    subst (λ (x : Thread). Left-or-beaten beats n k (thread-of st k) x) (sym (at-put-other ts n k t d)) (won .others k d)
+
 -- a rival is another running owner
 pub record Rivals (st : State) (n s k : ℕ) : Type 0 where
   pub owner : owner-of st s ≡ k
   pub other : k ≡ n → ⊥
   pub running : thread-of st k .phase ≡ Running
 
+-- the rival that is found is one
 rival-parts : (st : State) (n s k : ℕ) → rival st n s ≡ Some k → Rivals st n s k
 rival-parts st n s k e = go (is-other n o && is-running (thread-of st o .phase)) refl e
   where
@@ -89,12 +96,12 @@ rival-none st n s idle e d = go (is-other n o && is-running (thread-of st o .pha
 
 module _ (ws : List ℕ) (base : ℕ) (w : World) (h : History) (beats : Table) (n s end : ℕ) (ts : Map Thread)
     (f : Fits ws base w h) (run : thread-of (w .engine) n .phase ≡ Running) (r : Refreshed (w .engine) n end ts) where
-  -- thread 0 does not run, whoever the caller is
+  -- there is no thread 0, so it does not run
   nobody-idle : at ts 0 .phase ≡ Idle
-  nobody-idle = ap (λ (t : Thread). t .phase) (r .others 0 (λ e. never-both (sym (f .seats 0 .inside refl) ∙ ap (λ (j : ℕ). thread-of (w .engine) j .phase) e ∙ run))) ∙ f .seats 0 .inside refl
-    where
-      never-both : _≡_ {A = Phase} Idle Running → ⊥
-      never-both e = let z : _≡_ {A = ℕ} 0 1 = cc in omega arith
+  nobody-idle =
+      ap (λ (t : Thread). t .phase)
+      (r .others 0 (λ e. both-ways (is-thread (w .engine .set-up) n) (ap (is-thread (w .engine .set-up)) (sym e)) (running-member ws base w h n f run)))
+      ∙ f .seats 0 .inside refl
 
   -- a stripe with no rival is won
   pub won-unopposed : rival (threaded (w .engine) ts) n s ≡ None → Won beats (w .engine) n s end ts
@@ -126,18 +133,6 @@ module _ (ws : List ℕ) (base : ℕ) (w : World) (h : History) (beats : Table) 
           }))
       other j d (inr e) = inl (at-put-other ts k j victim e ∙ r .others j d)
 
--- a thread that runs is one of the set-up
-running-member : (ws : List ℕ) (base : ℕ) (w : World) (h : History) (k : ℕ) → Fits ws base w h →
-    thread-of (w .engine) k .phase ≡ Running → is-thread (w .engine .set-up) k ≡ true
-running-member ws base w h k f run = go (cases-bool (is-thread (w .engine .set-up) k))
-  where
-    never-both : _≡_ {A = Phase} Running Idle → ⊥
-    never-both e = let z : _≡_ {A = ℕ} 0 1 = cc in omega arith
-
-    go : (is-thread (w .engine .set-up) k ≡ true) ⊎ (is-thread (w .engine .set-up) k ≡ false) → is-thread (w .engine .set-up) k ≡ true
-    go (inl e) = e
-    go (inr e) = absurd (never-both (sym run ∙ f .seats k .inside e))
-
 -- what comes after the meeting: a loss ends the call, and a won stripe lets it go on
 module _ (lost-keeps : Lost-keeps) (leader-beats : Leader-beats) (ws : List ℕ) (base : ℕ) (w : World) (h : History) (beats : Table) (c : Call)
     (s end : ℕ) (ts : Map Thread) (f : Fits ws base w h) (run : thread-of (w .engine) (caller c) .phase ≡ Running)
@@ -154,6 +149,7 @@ module _ (lost-keeps : Lost-keeps) (leader-beats : Leader-beats) (ws : List ℕ)
       both-ways (beats (caller c) k) beaten
       (leader-beats beats (caller c) k (w .engine .set-up .threads) led (leb-true 1 k (p .0)) (leb-true k (w .engine .set-up .threads) (p .1)) (x .other) .0)
 
+  -- so the loss to a rival keeps everything
   lost-to : (k : ℕ) → Rivals (threaded (w .engine) ts) (caller c) s k → beats (caller c) k ≡ false →
       Kept ws base w h beats c (lost w (Beaten k) (lose (threaded (w .engine) ts) (caller c) (Beaten k)))
   lost-to k x beaten =
@@ -162,6 +158,7 @@ module _ (lost-keeps : Lost-keeps) (leader-beats : Leader-beats) (ws : List ℕ)
       (λ j d. at-put-other ts (caller c) j (with-phase (at ts (caller c)) (Lost (Beaten k))) d ∙ r .others j d)
       (λ led. absurd (leader-wins k x beaten led))
 
+  -- however the meeting ends, the whole call keeps everything
   pub contend-keeps : Kept ws base w h beats c (rest (contend beats (threaded (w .engine) ts) (caller c) s))
   contend-keeps = go (rival (threaded (w .engine) ts) (caller c) s) refl
     where
