@@ -1,10 +1,10 @@
-pub mod Entries
 pub mod Fronts
 pub mod GoingOn
 pub mod Growth
 pub mod Holders
 pub mod Induction
 pub mod Invariant
+pub mod KeyedEntries
 pub mod Keys
 pub mod Lines
 pub mod Load

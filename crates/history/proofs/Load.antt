@@ -8,13 +8,13 @@ use mathlib.Core.Logic.{inl}
 use mathlib.Core.Path.{_≡_, refl, ap, sym, subst, _∙_}
 use native.Mathlib.Omega.{arith}
 use Rattle.common.specs.declared.loss.Loss.the-variants.{Invalid}
-use Rattle.common.specs.declared.refusal.Refusal.{Refusal}
 use Rattle.common.specs.declared.refusal.Refusal.the-variants.{NoSuchPlace, LogFull, StripeBusy}
+use Rattle.common.specs.declared.refusal.Refusal.{Refusal}
 use Rattle.contention.specs.Events.{Event, word-loaded}
-use Rattle.history.proofs.Entries.{grown-roomy, has-before, has-pushed}
 use Rattle.history.proofs.GoingOn.{Left-or-beaten, goes-on-keeps}
 use Rattle.history.proofs.Holders.{free-hold}
 use Rattle.history.proofs.Invariant.{Fits, Front, Mark-fits, Running-fits, front}
+use Rattle.history.proofs.KeyedEntries.{grown-roomy, has-before, has-pushed}
 use Rattle.history.proofs.Keys.{found-has}
 use Rattle.history.proofs.Maps.{at-put-same, at-put-other}
 use Rattle.history.proofs.Phases.{Admitted, admitted-parts, running-phase}
@@ -43,10 +43,10 @@ use Rattle.rules.specs.declared.kind.Kind.the-variants.{Load as Loading}
 use Rattle.rules.specs.declared.phase.Phase.the-variants.{Running, Lost}
 use Rattle.std.proofs.shelf.Elements.{all-push, all-weaker}
 use Rattle.std.proofs.shelf.Tests.{ltb-false, ltb-true}
-use Rattle.std.specs.declared.option.Option.{Option}
 use Rattle.std.specs.declared.option.Option.the-variants.{Some, None}
-use Rattle.std.specs.declared.result.Result.{Result}
+use Rattle.std.specs.declared.option.Option.{Option}
 use Rattle.std.specs.declared.result.Result.the-variants.{Ok, Err}
+use Rattle.std.specs.declared.result.Result.{Result}
 use Rattle.std.specs.shelf.Lists.{All}
 
 -- words that are equal wherever the read log looks

@@ -7,9 +7,9 @@ use mathlib.Core.List.{List, [], _∷_}
 use mathlib.Core.Logic.{_⊎_, inl, inr}
 use mathlib.Core.Path.{_≡_, refl, ap, sym, subst, _∙_}
 use native.Mathlib.Omega.{arith}
-use Rattle.history.proofs.Entries.{all-both, keyed}
 use Rattle.history.proofs.Holders.{free-hold, held-none-free}
 use Rattle.history.proofs.Invariant.{Fits, Hold, Mark-fits, Overtaken, front, left-of, stores-in, top, top-of}
+use Rattle.history.proofs.KeyedEntries.{all-both, keyed}
 use Rattle.history.proofs.Plan.{Free-word-agrees, Refresh-agrees, Invalid-excuses}
 use Rattle.history.proofs.Running.{running-fits}
 use Rattle.history.specs.Law.{updater, words-at}
@@ -25,8 +25,8 @@ use Rattle.rules.specs.declared.phase.Phase.the-variants.{Running}
 use Rattle.std.proofs.shelf.Elements.{all-weaker}
 use Rattle.std.proofs.shelf.Lists.{getD-set-other, take-all}
 use Rattle.std.proofs.shelf.Tests.{and-parts, eq-eqb, eqb-false, eqb-true, and-from, both-ways, not-true, not-from-false, or-parts}
-use Rattle.std.specs.declared.option.Option.{Option}
 use Rattle.std.specs.declared.option.Option.the-variants.{Some, None}
+use Rattle.std.specs.declared.option.Option.{Option}
 use Rattle.std.specs.shelf.Lists.{All}
 
 module _ (u : SetUp) (s a : ℕ) (here : stripe-of u a ≡ s) where

@@ -6,13 +6,13 @@ use mathlib.Core.Bool.{Bool, true, false}
 use mathlib.Core.List.{List, [], _∷_, _++_}
 use mathlib.Core.Logic.{_⊎_, inl, inr}
 use mathlib.Core.Path.{_≡_, refl, ap, sym, subst, _∙_}
-use Rattle.common.specs.declared.refusal.Refusal.{Refusal}
 use Rattle.common.specs.declared.refusal.Refusal.the-variants.{NoSuchPlace, LogFull, StripeBusy}
+use Rattle.common.specs.declared.refusal.Refusal.{Refusal}
 use Rattle.contention.specs.Events.{Event, stripe-taken}
-use Rattle.history.proofs.Entries.{grown-roomy, has-replaced, pushed-cases}
 use Rattle.history.proofs.GoingOn.{Left-or-beaten, Taken-by, goes-on-keeps}
 use Rattle.history.proofs.Holders.{free-hold}
 use Rattle.history.proofs.Invariant.{Fits, Front, Running-fits, front, stores-in}
+use Rattle.history.proofs.KeyedEntries.{grown-roomy, has-replaced, pushed-cases}
 use Rattle.history.proofs.Keys.{found-has}
 use Rattle.history.proofs.Maps.{at-put-same, at-put-other}
 use Rattle.history.proofs.Phases.{Admitted, admitted-parts, running-phase}
@@ -39,10 +39,10 @@ use Rattle.rules.specs.declared.call.Call.the-variants.{Store}
 use Rattle.rules.specs.declared.kind.Kind.the-variants.{Store as Storing}
 use Rattle.rules.specs.declared.phase.Phase.the-variants.{Running}
 use Rattle.std.proofs.shelf.Tests.{cases-eq, cond-false, cond-true, eq-eqb, eqb-true, or-left, or-right}
-use Rattle.std.specs.declared.result.Result.{Result}
-use Rattle.std.specs.declared.result.Result.the-variants.{Ok, Err}
-use Rattle.std.specs.declared.option.Option.{Option}
 use Rattle.std.specs.declared.option.Option.the-variants.{None}
+use Rattle.std.specs.declared.option.Option.{Option}
+use Rattle.std.specs.declared.result.Result.the-variants.{Ok, Err}
+use Rattle.std.specs.declared.result.Result.{Result}
 
 -- what is left to show of a transaction that stored: its log is the one that its stores make, of the addresses that it
 -- had and the new one, and of stripes it gained at most that of the new one
