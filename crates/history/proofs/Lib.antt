@@ -1,9 +1,11 @@
+pub mod Entries
 pub mod Fronts
 pub mod Growth
 pub mod Induction
 pub mod Invariant
 pub mod Keys
 pub mod Lines
+pub mod Logs
 pub mod Maps
 pub mod NewEngine
 pub mod Phases
