@@ -15,11 +15,13 @@ use Rattle.history.specs.Law.{updater, words-at}
 use Rattle.history.specs.Record.{Work, no-work, called}
 use Rattle.history.specs.Serial.{Use, use-of, reads, writes, drains, no-use, keep, kept, word-or, moved-into, serial-run, log-entry, log-use, write-log, put-in}
 use Rattle.layout.specs.Lookups.{first-with, has-key, replaced}
+use Rattle.layout.specs.SetUps.{stripe-of}
 use Rattle.layout.specs.declared.entries.WriteEntry.{WriteEntry}
+use Rattle.layout.specs.declared.set_up.SetUp.{SetUp}
 use Rattle.rules.specs.declared.call.Call.{Call}
 use Rattle.rules.specs.declared.call.Call.the-variants.{Drain}
-use Rattle.std.proofs.shelf.Lists.{length-set, length-push, getD-append-left, getD-set-same, getD-set-other, take-append-le}
-use Rattle.std.proofs.shelf.Tests.{eqb-true, eqb-false, or-parts, cases-eq}
+use Rattle.std.proofs.shelf.Lists.{length-set, length-push, getD-past, getD-append-left, getD-set-same, getD-set-other, take-append-le}
+use Rattle.std.proofs.shelf.Tests.{both-ways, eqb-true, eqb-false, eq-eqb, or-parts, or-cases, or-left, or-right, cases-eq, cases-lt}
 use Rattle.std.specs.Options.{isSome}
 use Rattle.std.specs.declared.option.Option.{Option}
 use Rattle.std.specs.declared.option.Option.the-variants.{Some, None}
@@ -119,6 +121,58 @@ put-in-finds xs (e ∷ es) a o l =
         r ∙ ap (word-or (getD (set xs (e .address) (e .word)) a 0)) (finds-none a es (ap (λ (j : ℕ). has-key address-of j es) (sym (eqb-true (e .address) a p)) ∙ o .0))
         ∙ written-word xs e a true p l
     go false p r = r ∙ ap (λ (v : ℕ). word-or v (first-with address-of a es)) (written-word xs e a false p l)
+
+-- entries that were put in leave an address that none of them has
+pub put-in-misses : (xs : List ℕ) (es : List WriteEntry) (a : ℕ) → has-key (λ e. e .address) a es ≡ false →
+    getD (put-in xs es) a 0 ≡ getD xs a 0
+put-in-misses xs [] a h = refl
+put-in-misses xs (e ∷ es) a h =
+    let d = or-parts (eqb (e .address) a) (has-key address-of a es) h in
+    put-in-misses (set xs (e .address) (e .word)) es a (d .1)
+    ∙ getD-set-other xs (e .address) a (e .word) 0 (λ x. eqb-false (e .address) a (d .0) (sym x))
+
+-- the word at an address after entries were put in comes from them and the word that was there
+pub put-in-same : (xs ys : List ℕ) (es : List WriteEntry) (a : ℕ) → length xs ≡ length ys → getD xs a 0 ≡ getD ys a 0 →
+    getD (put-in xs es) a 0 ≡ getD (put-in ys es) a 0
+put-in-same xs ys [] a l h = h
+put-in-same xs ys (e ∷ es) a l h =
+    put-in-same (set xs (e .address) (e .word)) (set ys (e .address) (e .word)) es a
+    (length-set xs (e .address) (e .word) ∙ l ∙ sym (length-set ys (e .address) (e .word))) (go (cases-lt a (length xs)))
+  where
+    inner : a < length xs → (b : Bool) → eqb (e .address) a ≡ b →
+        getD (set xs (e .address) (e .word)) a 0 ≡ getD (set ys (e .address) (e .word)) a 0
+    inner m true p = written-word xs e a true p m ∙ sym (written-word ys e a true p (omega arith))
+    inner m false p = written-word xs e a false p m ∙ h ∙ sym (written-word ys e a false p (omega arith))
+
+    go : (a < length xs) ⊎ (length xs ≤ a) → getD (set xs (e .address) (e .word)) a 0 ≡ getD (set ys (e .address) (e .word)) a 0
+    go (inl m) = inner m (eqb (e .address) a) refl
+    go (inr m) =
+        getD-past (set xs (e .address) (e .word)) a 0 (omega (arith, length-set xs (e .address) (e .word)))
+        ∙ sym (getD-past (set ys (e .address) (e .word)) a 0 (omega (arith, length-set ys (e .address) (e .word))))
+
+-- a stripe in which there are entries has an address of one
+entry-in-stripe : (u : SetUp) (s : ℕ) (es : List WriteEntry) → has-key (λ e. stripe-of u (e .address)) s es ≡ true →
+    (a : ℕ) × (has-key address-of a es ≡ true) × (stripe-of u a ≡ s)
+entry-in-stripe u s [] h = absurd (both-ways false refl h)
+entry-in-stripe u s (e ∷ es) h =
+    go (or-cases (eqb (stripe-of u (e .address)) s) (has-key (λ x. stripe-of u (x .address)) s es) h) (λ x. entry-in-stripe u s es x)
+  where
+    go : (eqb (stripe-of u (e .address)) s ≡ true) ⊎ (has-key (λ x. stripe-of u (x .address)) s es ≡ true) →
+        (has-key (λ x. stripe-of u (x .address)) s es ≡ true → (a : ℕ) × (has-key address-of a es ≡ true) × (stripe-of u a ≡ s)) →
+        (a : ℕ) × (has-key address-of a (e ∷ es) ≡ true) × (stripe-of u a ≡ s)
+    go (inl p) later =
+        (e .address, or-left (eqb (e .address) (e .address)) (has-key address-of (e .address) es) (eq-eqb (e .address) (e .address) refl),
+        eqb-true (stripe-of u (e .address)) s p)
+    go (inr p) later =
+        let r = later p in
+        (r .0, or-right (eqb (e .address) (r .0)) (has-key address-of (r .0) es) (r .1), r .2)
+
+-- a stripe in which a transaction stored has an address of its write log
+pub stored-logged : (u : SetUp) (s : ℕ) (cs : List Call) → has-key (λ e. stripe-of u (e .address)) s (kept cs) ≡ true →
+    (a : ℕ) × (has-key (λ e. e .address) a (write-log cs) ≡ true) × (stripe-of u a ≡ s)
+stored-logged u s cs h =
+    let r = entry-in-stripe u s (kept cs) h in
+    (r .0, log-has-kept cs (r .0) ∙ r .1, r .2)
 
 -- the serial run with one more updater moves in what it kept
 serial-pushed : (ws : List ℕ) (us : List Work) (w : Work) →
