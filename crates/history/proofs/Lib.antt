@@ -1,3 +1,4 @@
+pub mod Callers
 pub mod Entries
 pub mod Fronts
 pub mod Growth
@@ -11,5 +12,6 @@ pub mod NewEngine
 pub mod Phases
 pub mod Plan
 pub mod Quiet
+pub mod ReaderSeal
 pub mod Refusals
 pub mod Seats
