@@ -15,3 +15,4 @@ pub mod Quiet
 pub mod ReaderSeal
 pub mod Refusals
 pub mod Seats
+pub mod UpdaterSeal

@@ -1,0 +1,315 @@
+-- The seal of a transaction that stored something, with loads that agree at its moment, keeps the invariant.
+use Prim.Native.Nat.{ℕ, _+_, _<_, _≤_}
+use lib.ListN.{length, getD}
+use mathlib.Core.Bool.{Bool, true, false}
+use mathlib.Core.List.{List, [], _∷_, _++_}
+use mathlib.Core.Logic.{_⊎_, inl, inr}
+use mathlib.Core.Path.{_≡_, refl, ap, sym, subst, _∙_}
+use native.Mathlib.Omega.{arith}
+use Rattle.contention.specs.Events.{seal-of}
+use Rattle.history.proofs.Callers.{present-unlost, draining-other, running-not-draining}
+use Rattle.history.proofs.Fronts.{hold-none}
+use Rattle.history.proofs.Growth.{Grows, loads-grow, point-grows, points-grow, all-spared-grow}
+use Rattle.history.proofs.Invariant.{Fits, Front, Hold, Stripe-fits, Word-fits, Running-fits, Sealed-fits, Overtaken, Phase-fits, Seat, Draining, Spent, front, hold-of, left-of, top, stores-in}
+use Rattle.history.proofs.Lines.{leads-at}
+use Rattle.history.proofs.Logs.{stored-logged, sealed-word, push-grows, put-in-misses, put-in-same, serial-length}
+use Rattle.history.proofs.Plan.{Kept, then}
+use Rattle.history.proofs.ReaderSeal.{runs}
+use Rattle.history.proofs.Seats.{Apart, seat-apart, seat-other, number-other}
+use Rattle.history.specs.Law.{updater, Loads-at, Point, Spared}
+use Rattle.history.specs.Record.{History, Transaction, Work, Fall, called-seal, with-work, watched, rewritten, no-work}
+use Rattle.history.specs.Runs.{loss-in, line-of}
+use Rattle.history.specs.Serial.{kept, put-in, serial-run, write-log, not-drained}
+use Rattle.layout.specs.Lookups.{has-key}
+use Rattle.layout.specs.SetUps.{stripe-of}
+use Rattle.layout.specs.declared.entries.WriteEntry.{WriteEntry}
+use Rattle.rules.specs.Admission.{is-thread}
+use Rattle.rules.specs.Conflicts.{owner-of}
+use Rattle.rules.specs.Maps.{Map, at}
+use Rattle.rules.specs.Outcomes.{Outcome, Table, over}
+use Rattle.rules.specs.States.{State, World, Thread, thread-of, stripe-at, with-phase, with-snapshot}
+use Rattle.rules.specs.declared.answer.Answer.the-variants.{Sealed}
+use Rattle.rules.specs.declared.call.Call.the-variants.{Seal}
+use Rattle.rules.specs.declared.ending.Sealed.the-variants.{Updater}
+use Rattle.rules.specs.declared.phase.Phase.the-variants.{Running, Sealed as Holding}
+use Rattle.std.proofs.shelf.Lists.{length-push, getD-append-left, getD-push}
+use Rattle.std.proofs.shelf.Tests.{both-ways, cases-bool, cases-eq, cases-lt}
+use Rattle.std.specs.declared.option.Option.{Option}
+use Rattle.std.specs.declared.option.Option.the-variants.{Some, None}
+
+-- the engine with the clock one higher, and these threads
+abbrev pub stamped : State → Map Thread → State
+stamped st ts =
+    record { set-up = st .set-up; clock = st .clock + 1; mark = st .mark; stripes = st .stripes; threads = ts }
+
+abbrev pub updater-sealed : World → ℕ → Map Thread → Outcome
+updater-sealed w n ts =
+    record { answer = Sealed (Updater (w .engine .clock + 1)); told = seal-of n ∷ []; after = over w (stamped (w .engine) ts) }
+
+-- the thread with its ticket, at any snapshot end
+abbrev pub ticketed : State → ℕ → ℕ → Thread
+ticketed st n e = with-phase (with-snapshot (thread-of st n) e) (Holding (st .clock + 1) 0)
+
+-- the work of the new updater, and the updaters with it
+abbrev new-updater : History → ℕ → Work
+new-updater h n = called-seal (Seal n) (length (h .updaters)) (h .present n .work)
+
+abbrev one-more : History → ℕ → List Work
+one-more h n = h .updaters ++ new-updater h n ∷ []
+
+-- the history after the seal of an updater
+abbrev sealed-history : World → History → Table → ℕ → Map Thread → History
+sealed-history w h beats n ts = record {
+  stored = w .words;
+  updaters = one-more h n;
+  present = then w h beats (Seal n) (updater-sealed w n ts) .present;
+  past = h .past;
+}
+
+-- what a stripe of the new updater shows
+abbrev own-front : State → ℕ → ℕ → Front
+own-front st n s =
+    record { version = stripe-at st s .version; hold = Some (record { ticket = st .clock + 1; left = thread-of st n .writes }) }
+
+-- the one that was added
+pushed-new : (h : History) (n k : ℕ) → length (h .updaters) ≤ k → k < length (one-more h n) → updater (one-more h n) k ≡ new-updater h n
+pushed-new h n k low high =
+    getD-push (h .updaters) (new-updater h n) (no-work 0 0) k (omega (arith, length-push (h .updaters) (new-updater h n)))
+
+-- the ones before
+pushed-old : (h : History) (n k : ℕ) → k < length (h .updaters) → updater (one-more h n) k ≡ updater (h .updaters) k
+pushed-old h n k l = getD-append-left (h .updaters) (new-updater h n ∷ []) (no-work 0 0) k l
+
+module _ (ws : List ℕ) (base : ℕ) (w : World) (h : History) (beats : Table) (n end : ℕ) (ts : Map Thread) (f : Fits ws base w h)
+    (inside : is-thread (w .engine .set-up) n ≡ true)
+    (running : thread-of (w .engine) n .phase ≡ Running)
+    (agrees : Loads-at ws (h .updaters) (length (h .updaters)) (h .present n .work))
+    (own : at ts n ≡ ticketed (w .engine) n end)
+    (apart : (k : ℕ) → (k ≡ n → ⊥) → at ts k ≡ thread-of (w .engine) k) where
+
+  front-own : (s : ℕ) → owner-of (w .engine) s ≡ n → front (stamped (w .engine) ts) s ≡ own-front (w .engine) n s
+  front-own s e = λ i. record {
+    version = stripe-at (w .engine) s .version;
+    hold = (ap (λ (k : ℕ). hold-of (at ts k)) e ∙ ap hold-of own) i;
+  }
+
+  front-other : (s : ℕ) → (owner-of (w .engine) s ≡ n → ⊥) → front (stamped (w .engine) ts) s ≡ front (w .engine) s
+  front-other s d = λ i. record {
+    version = stripe-at (w .engine) s .version;
+    hold = ap hold-of (apart (owner-of (w .engine) s) d) i;
+  }
+
+  -- what a transaction stored in is its thread's
+  stores-owned : (s : ℕ) → stores-in (w .engine .set-up) s (h .present n .work) ≡ true → owner-of (w .engine) s ≡ n
+  stores-owned s e =
+      let r = runs ws base w h n f running in
+      let x = stored-logged (w .engine .set-up) s (h .present n .work .calls) e in
+      ap (owner-of (w .engine)) (sym (x .2))
+      ∙ r .owns-log (x .0) (ap (has-key (λ y. y .address) (x .0)) (r .log) ∙ x .1)
+
+  stores-not : (s : ℕ) → (owner-of (w .engine) s ≡ n → ⊥) → stores-in (w .engine .set-up) s (h .present n .work) ≡ false
+  stores-not s d = go (cases-bool (stores-in (w .engine .set-up) s (h .present n .work)))
+    where
+      go : (stores-in (w .engine .set-up) s (h .present n .work) ≡ true) ⊎ (stores-in (w .engine .set-up) s (h .present n .work) ≡ false) →
+          stores-in (w .engine .set-up) s (h .present n .work) ≡ false
+      go (inl e) = absurd (d (stores-owned s e))
+      go (inr e) = e
+
+  -- a stripe of another thread, or of none: the new updater stored nothing there
+  untouched-other : (s : ℕ) → (owner-of (w .engine) s ≡ n → ⊥) → (k : ℕ) → base + top (front (w .engine) s) ≤ k → k < length (one-more h n) →
+      (k < length (h .updaters)) ⊎ (length (h .updaters) ≤ k) → stores-in (w .engine .set-up) s (updater (one-more h n) k) ≡ false
+  untouched-other s d k low high (inl l) =
+      ap (stores-in (w .engine .set-up) s) (pushed-old h n k l) ∙ f .stripes s .untouched k low l
+  untouched-other s d k low high (inr l) = ap (stores-in (w .engine .set-up) s) (pushed-new h n k l high) ∙ stores-not s d
+
+  sealed-stripe : (s : ℕ) → (owner-of (w .engine) s ≡ n) ⊎ (owner-of (w .engine) s ≡ n → ⊥) →
+      Stripe-fits (w .engine .set-up) (one-more h n) base (w .engine .clock + 1) s (front (stamped (w .engine) ts) s)
+  sealed-stripe s (inl e) =
+      subst (λ (x : Front). Stripe-fits (w .engine .set-up) (one-more h n) base (w .engine .clock + 1) s x) (sym (front-own s e))
+      (record {
+        rises = omega (arith, f .stripes s .rises, f .stripes s .by-clock);
+        by-clock = omega arith;
+        untouched = λ k low high. absurd (omega (arith, length-push (h .updaters) (new-updater h n), f .count));
+      })
+  sealed-stripe s (inr d) =
+      subst (λ (x : Front). Stripe-fits (w .engine .set-up) (one-more h n) base (w .engine .clock + 1) s x) (sym (front-other s d))
+      (record {
+        rises = f .stripes s .rises;
+        by-clock = omega (arith, f .stripes s .by-clock);
+        untouched = λ k low high. untouched-other s d k low high (cases-lt k (length (h .updaters)));
+      })
+
+  -- no sealed thread holds a stripe of a running one
+  held-by-none : (s : ℕ) → owner-of (w .engine) s ≡ n → front (w .engine) s .hold ≡ None
+  held-by-none s e =
+      ap (λ (k : ℕ). hold-of (thread-of (w .engine) k)) e ∙ hold-none (thread-of (w .engine) n) Running running refl
+
+  -- an address of a stripe that is another's is not logged
+  not-logged : (a : ℕ) → (owner-of (w .engine) (stripe-of (w .engine .set-up) a) ≡ n → ⊥) →
+      has-key (λ y. y .address) a (write-log (h .present n .work .calls)) ≡ false
+  not-logged a d = go (cases-bool (has-key (λ (y : WriteEntry). y .address) a (write-log (h .present n .work .calls))))
+    where
+      go : (has-key (λ (y : WriteEntry). y .address) a (write-log (h .present n .work .calls)) ≡ true) ⊎ (has-key (λ (y : WriteEntry). y .address) a (write-log (h .present n .work .calls)) ≡ false) →
+          has-key (λ (y : WriteEntry). y .address) a (write-log (h .present n .work .calls)) ≡ false
+      go (inl e) =
+          let r = runs ws base w h n f running in
+          absurd (d (r .owns-log a (ap (has-key (λ y. y .address) a) (r .log) ∙ e)))
+      go (inr e) = e
+
+  sealed-words : (a : ℕ) → a < length (w .words) →
+      (owner-of (w .engine) (stripe-of (w .engine .set-up) a) ≡ n) ⊎ (owner-of (w .engine) (stripe-of (w .engine .set-up) a) ≡ n → ⊥) →
+      Word-fits (w .engine .set-up) ws (one-more h n) (w .words) (front (stamped (w .engine) ts)) a
+  sealed-words a l (inl e) =
+      let r = runs ws base w h n f running in
+      let s = stripe-of (w .engine .set-up) a in
+      sealed-word ws (h .updaters) (new-updater h n) a (omega (arith, serial-length ws (h .updaters), f .sized))
+      ∙ put-in-same (serial-run ws (h .updaters)) (w .words) (write-log (h .present n .work .calls)) a
+      (serial-length ws (h .updaters) ∙ sym (f .sized))
+      (f .words a l ∙ ap (λ (o : Option Hold). getD (put-in (w .words) (left-of o)) a 0) (held-by-none s e))
+      ∙ ap (λ (es : List WriteEntry). getD (put-in (w .words) es) a 0) (sym (r .log))
+      ∙ ap (λ (x : Front). getD (put-in (w .words) (left-of (x .hold))) a 0) (sym (front-own s e))
+  sealed-words a l (inr d) =
+      sealed-word ws (h .updaters) (new-updater h n) a (omega (arith, serial-length ws (h .updaters), f .sized))
+      ∙ put-in-misses (serial-run ws (h .updaters)) (write-log (h .present n .work .calls)) a (not-logged a d)
+      ∙ f .words a l
+      ∙ ap (λ (x : Front). getD (put-in (w .words) (left-of (x .hold))) a 0) (sym (front-other (stripe-of (w .engine .set-up) a) d))
+
+  grown : Grows ws (h .updaters) (one-more h n)
+  grown = push-grows ws (h .updaters) (new-updater h n)
+
+  -- at its moment the new updater loads what it loaded
+  new-loads : Loads-at ws (one-more h n) (length (h .updaters)) (h .present n .work)
+  new-loads = loads-grow ws (h .updaters) (one-more h n) grown (length (h .updaters)) (h .present n .work) (omega arith) agrees
+
+  -- the caller's thread is sealed, with the new updater as its transaction
+  sealed-own : (b : Bool) →
+      Seat (w .engine .set-up) ws (one-more h n) base (front (stamped (w .engine) ts)) (owner-of (w .engine)) n (ticketed (w .engine) n end)
+      (with-work (watched b (h .present n)) (new-updater h n))
+  sealed-own b =
+      let s = f .seats n in
+      let r = runs ws base w h n f running in
+      let p = point-grows ws (h .updaters) (one-more h n) grown (h .present n .work) (s .point) in
+      record {
+        named = s .named;
+        inside = λ e. absurd (both-ways (is-thread (w .engine .set-up) n) e inside);
+        phase = record {
+          place = length (h .updaters);
+          numbered = refl;
+          standing = r .standing;
+          by-ticket = omega (arith, f .count);
+          so-far = omega (arith, length-push (h .updaters) (new-updater h n));
+          same = pushed-new h n (length (h .updaters)) (omega arith) (omega (arith, length-push (h .updaters) (new-updater h n)));
+          log = r .log;
+          drains = sym (r .undrained);
+          owns-log = r .owns-log;
+        };
+        point = record {
+          moment = p .moment;
+          since-begin = p .since-begin;
+          by-last-load = p .by-last-load;
+          so-far = p .so-far;
+          loads = p .loads;
+        };
+        spared =
+            subst (λ (o : Option Fall). Spared (w .engine .set-up) (one-more h n) (new-updater h n) o) (sym (r .standing)) tt;
+      }
+
+  -- a read entry of another thread at a stripe of the new updater is overtaken
+  overtakes : (k s : ℕ) → (k ≡ n → ⊥) → owner-of (w .engine) s ≡ n → Overtaken (w .engine .set-up) (one-more h n) k (length (h .updaters)) s
+  overtakes k s d e =
+      let new = pushed-new h n (length (h .updaters)) (omega arith) (omega (arith, length-push (h .updaters) (new-updater h n))) in
+      (length (h .updaters), omega arith, omega (arith, length-push (h .updaters) (new-updater h n)), record {
+        other = λ x. d (sym x ∙ ap (λ (y : Work). y .thread) new ∙ f .seats n .named);
+        stored = ap (stores-in (w .engine .set-up) s) new ∙ runs ws base w h n f running .owns-stored s e;
+      })
+
+  fronts-apart : (k s : ℕ) → (k ≡ n → ⊥) → (owner-of (w .engine) s ≡ n) ⊎ (owner-of (w .engine) s ≡ n → ⊥) →
+      (front (stamped (w .engine) ts) s ≡ front (w .engine) s) ⊎ Overtaken (w .engine .set-up) (one-more h n) k (length (h .updaters)) s
+  fronts-apart k s d (inl e) = inr (overtakes k s d e)
+  fronts-apart k s d (inr x) = inl (front-other s x)
+
+  others-apart : (k : ℕ) → (k ≡ n → ⊥) →
+      Apart (w .engine .set-up) ws (h .updaters) (one-more h n) (front (w .engine)) (front (stamped (w .engine) ts)) (owner-of (w .engine)) (owner-of (w .engine)) k
+  others-apart k d = record {
+    grows = grown;
+    newer = λ j low high e. d (sym e ∙ ap (λ (x : Work). x .thread) (pushed-new h n j low high) ∙ f .seats n .named);
+    same = λ j l e. pushed-old h n j l;
+    gains = λ s e. e;
+    keeps = λ s e. e;
+    fronts = λ s e. fronts-apart k s d (cases-eq (owner-of (w .engine) s) n);
+  }
+
+  sealed-present : then w h beats (Seal n) (updater-sealed w n ts) .present n
+      ≡ with-work (watched (leads-at (w .engine .set-up) (line-of beats (Seal n) (updater-sealed w n ts)) n) (h .present n)) (new-updater h n)
+  sealed-present =
+      present-unlost (w .engine .set-up) h (line-of beats (Seal n) (updater-sealed w n ts)) refl (ap (λ (t : Thread). loss-in (t .phase)) own)
+
+  sealed-seat : (k : ℕ) → (k ≡ n) ⊎ (k ≡ n → ⊥) →
+      Seat (w .engine .set-up) ws (one-more h n) base (front (stamped (w .engine) ts)) (owner-of (w .engine)) k (at ts k)
+      (then w h beats (Seal n) (updater-sealed w n ts) .present k)
+  sealed-seat k (inl e) =
+      subst (λ (j : ℕ). Seat (w .engine .set-up) ws (one-more h n) base (front (stamped (w .engine) ts)) (owner-of (w .engine)) j (at ts j)
+      (then w h beats (Seal n) (updater-sealed w n ts) .present j)) (sym e)
+      (subst (λ (t : Thread). Seat (w .engine .set-up) ws (one-more h n) base (front (stamped (w .engine) ts)) (owner-of (w .engine)) n t
+      (then w h beats (Seal n) (updater-sealed w n ts) .present n)) (sym own)
+      (subst (λ (x : Transaction). Seat (w .engine .set-up) ws (one-more h n) base (front (stamped (w .engine) ts)) (owner-of (w .engine)) n
+      (ticketed (w .engine) n end) x) (sym sealed-present)
+      (sealed-own (leads-at (w .engine .set-up) (line-of beats (Seal n) (updater-sealed w n ts)) n))))
+  sealed-seat k (inr d) =
+      seat-other (w .engine .set-up) ws base (front (stamped (w .engine) ts)) (owner-of (w .engine)) h (line-of beats (Seal n) (updater-sealed w n ts)) k
+      (at ts k) d refl (one-more h n)
+      (subst (λ (t : Thread). Seat (w .engine .set-up) ws (one-more h n) base (front (stamped (w .engine) ts)) (owner-of (w .engine)) k t (h .present k))
+      (sym (apart k d))
+      (seat-apart (w .engine .set-up) ws (h .updaters) (one-more h n) (front (w .engine)) (front (stamped (w .engine) ts)) (owner-of (w .engine)) (owner-of (w .engine))
+      k base (thread-of (w .engine) k) (h .present k) grown (λ e. others-apart k d) (f .seats k)))
+
+  sealed-spent : (k : ℕ) → k < length (one-more h n) → (k < length (h .updaters)) ⊎ (length (h .updaters) ≤ k) →
+      Spent (stamped (w .engine) ts) (sealed-history w h beats n ts) k
+  sealed-spent k high (inl l) = go (f .spent k l)
+    where
+      go : Spent (w .engine) h k → Spent (stamped (w .engine) ts) (sealed-history w h beats n ts) k
+      go (inl e) = inl (ap not-drained (pushed-old h n k l) ∙ e)
+      go (inr x) =
+          inr (draining-other (w .engine) (stamped (w .engine) ts) h (sealed-history w h beats n ts) n k apart
+          (λ j d. number-other (w .engine .set-up) h (line-of beats (Seal n) (updater-sealed w n ts)) j d)
+          x (running-not-draining (w .engine) h n k running x))
+  sealed-spent k high (inr l) = inr (record {
+    thread = n;
+    ticket = w .engine .clock + 1;
+    drained = 0;
+    sealed = ap (λ (t : Thread). t .phase) own;
+    numbered =
+        ap (λ (x : Transaction). x .work .number) sealed-present
+        ∙ ap Some (omega (arith, length-push (h .updaters) (new-updater h n)));
+  })
+
+  sealed-loads : (k : ℕ) → k < length (one-more h n) → (k < length (h .updaters)) ⊎ (length (h .updaters) ≤ k) →
+      Loads-at ws (one-more h n) k (updater (one-more h n) k)
+  sealed-loads k high (inl l) =
+      subst (λ (x : Work). Loads-at ws (one-more h n) k x) (sym (pushed-old h n k l))
+      (loads-grow ws (h .updaters) (one-more h n) grown k (updater (h .updaters) k) (omega arith) (f .loads k l))
+  sealed-loads k high (inr l) =
+      let e : length (h .updaters) ≡ k = omega (arith, length-push (h .updaters) (new-updater h n)) in
+      subst (λ (x : Work). Loads-at ws (one-more h n) k x) (sym (pushed-new h n k l high))
+      (subst (λ (j : ℕ). Loads-at ws (one-more h n) j (new-updater h n)) e new-loads)
+
+  pub updater-keeps : Kept ws base w h beats (Seal n) (updater-sealed w n ts)
+  updater-keeps = record {
+    same-set-up = refl;
+    fits =
+        subst (λ (vs : List Work). Fits ws base (over w (stamped (w .engine) ts))
+        (record { stored = w .words; updaters = vs; present = then w h beats (Seal n) (updater-sealed w n ts) .present; past = h .past }))
+        (ap (λ (o : Option ℕ). rewritten o (new-updater h n) (h .updaters) ++ new-updater h n ∷ []) (sym (runs ws base w h n f running .unnumbered)))
+        (record {
+          stored = refl;
+          sized = f .sized;
+          count = omega (arith, length-push (h .updaters) (new-updater h n), f .count);
+          stripes = λ s. sealed-stripe s (cases-eq (owner-of (w .engine) s) n);
+          words = λ a l. sealed-words a l (cases-eq (owner-of (w .engine) (stripe-of (w .engine .set-up) a)) n);
+          seats = λ k. sealed-seat k (cases-eq k n);
+          spent = λ k l. sealed-spent k l (cases-lt k (length (h .updaters)));
+          loads = λ k l. sealed-loads k l (cases-lt k (length (h .updaters)));
+          past-points = points-grow ws (h .updaters) (one-more h n) grown (h .past) (f .past-points);
+          past-spared = all-spared-grow ws (h .updaters) (one-more h n) grown (w .engine .set-up) (h .past) (f .past-spared);
+        });
+  }
