@@ -14,5 +14,6 @@ pub mod Plan
 pub mod Quiet
 pub mod ReaderSeal
 pub mod Refusals
+pub mod Seal
 pub mod Seats
 pub mod UpdaterSeal
