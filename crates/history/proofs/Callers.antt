@@ -6,7 +6,7 @@ use native.Mathlib.Omega.{arith}
 use Rattle.common.specs.declared.loss.Loss.{Loss}
 use Rattle.history.proofs.Invariant.{Draining}
 use Rattle.history.proofs.Lines.{leads-at, present-caller}
-use Rattle.history.specs.Record.{History, Line, Transaction, Work, caller, deed, acted, watched, fallen, told-loss, or-else, after-line}
+use Rattle.history.specs.Record.{History, Line, Work, caller, deed, acted, watched, fallen, told-loss, or-else, after-line}
 use Rattle.layout.specs.declared.set_up.SetUp.{SetUp}
 use Rattle.rules.specs.States.{State, Thread, thread-of}
 use Rattle.rules.specs.declared.phase.Phase.the-variants.{Running, Sealed}

@@ -7,7 +7,7 @@ use mathlib.Core.Path.{_≡_, refl, ap, sym, _∙_}
 use Rattle.layout.specs.Lookups.{first-with, has-key, replaced}
 use Rattle.std.proofs.shelf.Tests.{eqb-true, eqb-false, both-ways, or-parts, or-from, ne-eqb}
 use Rattle.std.specs.declared.option.Option.{Option}
-use Rattle.std.specs.declared.option.Option.the-variants.{Some, None}
+use Rattle.std.specs.declared.option.Option.the-variants.{Some}
 
 -- no two entries have the same key
 abbrev pub Once : {E : Type 0} → (E → ℕ) → List E → Type 0

@@ -8,16 +8,16 @@ use mathlib.Core.Path.{_≡_, refl, ap, sym, subst, _∙_}
 use Rattle.contention.specs.Events.{seal-of}
 use Rattle.history.proofs.Callers.{present-unlost, draining-other, running-not-draining}
 use Rattle.history.proofs.Fronts.{hold-none, fronts-kept, holds-put}
-use Rattle.history.proofs.Invariant.{Fits, Running-fits, Seat, Draining, front, hold-of, stores-in}
+use Rattle.history.proofs.Invariant.{Fits, Running-fits, Seat, front}
 use Rattle.history.proofs.Lines.{leads-at}
 use Rattle.history.proofs.Logs.{stored-logged}
 use Rattle.history.proofs.Maps.{at-put-same, at-put-other}
 use Rattle.history.proofs.Phases.{fits-running}
 use Rattle.history.proofs.Plan.{Kept, then}
-use Rattle.history.proofs.Quiet.{Quiet, quiet-keeps, quiet-state, quiet-outcome}
+use Rattle.history.proofs.Quiet.{quiet-keeps, quiet-state, quiet-outcome}
 use Rattle.history.proofs.Seats.{seat-other, number-other}
 use Rattle.history.specs.Law.{Spared}
-use Rattle.history.specs.Record.{History, Transaction, Work, Fall, called, with-work, watched, rewritten}
+use Rattle.history.specs.Record.{History, Transaction, Fall, called, with-work, watched, rewritten}
 use Rattle.history.specs.Runs.{loss-in, line-of}
 use Rattle.history.specs.Serial.{write-log}
 use Rattle.layout.specs.Lookups.{has-key}
@@ -33,7 +33,6 @@ use Rattle.rules.specs.declared.phase.Phase.the-variants.{Idle, Running}
 use Rattle.std.proofs.shelf.Lists.{nil-from-length}
 use Rattle.std.proofs.shelf.Tests.{both-ways, cases-eq}
 use Rattle.std.specs.declared.option.Option.{Option}
-use Rattle.std.specs.declared.option.Option.the-variants.{None}
 
 -- what the invariant says of a running thread
 pub runs : (ws : List ℕ) (base : ℕ) (w : World) (h : History) (n : ℕ) → Fits ws base w h → thread-of (w .engine) n .phase ≡ Running →

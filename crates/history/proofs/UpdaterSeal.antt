@@ -10,16 +10,16 @@ use Rattle.contention.specs.Events.{seal-of}
 use Rattle.history.proofs.Callers.{present-unlost, draining-other, running-not-draining}
 use Rattle.history.proofs.Fronts.{hold-none}
 use Rattle.history.proofs.Growth.{Grows, loads-grow, point-grows, points-grow, all-spared-grow}
-use Rattle.history.proofs.Invariant.{Fits, Front, Hold, Stripe-fits, Word-fits, Running-fits, Sealed-fits, Overtaken, Phase-fits, Seat, Draining, Spent, front, hold-of, left-of, top, stores-in}
+use Rattle.history.proofs.Invariant.{Fits, Front, Hold, Stripe-fits, Word-fits, Overtaken, Seat, Spent, front, hold-of, left-of, top, stores-in}
 use Rattle.history.proofs.Lines.{leads-at}
 use Rattle.history.proofs.Logs.{stored-logged, sealed-word, push-grows, put-in-misses, put-in-same, serial-length}
 use Rattle.history.proofs.Plan.{Kept, then}
 use Rattle.history.proofs.ReaderSeal.{runs}
 use Rattle.history.proofs.Seats.{Apart, seat-apart, seat-other, number-other}
-use Rattle.history.specs.Law.{updater, Loads-at, Point, Spared}
+use Rattle.history.specs.Law.{updater, Loads-at, Spared}
 use Rattle.history.specs.Record.{History, Transaction, Work, Fall, called-seal, with-work, watched, rewritten, no-work}
 use Rattle.history.specs.Runs.{loss-in, line-of}
-use Rattle.history.specs.Serial.{kept, put-in, serial-run, write-log, not-drained}
+use Rattle.history.specs.Serial.{put-in, serial-run, write-log, not-drained}
 use Rattle.layout.specs.Lookups.{has-key}
 use Rattle.layout.specs.SetUps.{stripe-of}
 use Rattle.layout.specs.declared.entries.WriteEntry.{WriteEntry}
