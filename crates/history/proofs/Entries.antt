@@ -1,6 +1,7 @@
 -- Logs by their keys, after an entry is replaced or one more stands at the end.
-use Prim.Native.Nat.{ℕ}
+use Prim.Native.Nat.{ℕ, zero, suc}
 use lib.Dec.{eqb}
+use lib.ListN.{drop}
 use mathlib.Core.Bool.{Bool, true, false, cond, _||_}
 use mathlib.Core.List.{List, [], _∷_, _++_}
 use mathlib.Core.Path.{_≡_, refl, ap, sym, _∙_}
@@ -88,3 +89,9 @@ module _ {E : Type 0} (key : E → ℕ) where
       let d = or-parts (eqb (key e) (key new)) (has-key key (key new) es) h in
       (misses-pushed (key e) new es (o .0) (ne-eqb (key new) (key e) (λ x. eqb-false (key e) (key new) (d .0) (sym x))),
       once-pushed new es (d .1) (o .1))
+
+  -- a key that the log misses, its end misses too
+  pub misses-dropped : (k d : ℕ) (es : List E) → has-key key k es ≡ false → has-key key k (drop d es) ≡ false
+  misses-dropped k zero es h = h
+  misses-dropped k (suc d) [] h = refl
+  misses-dropped k (suc d) (e ∷ es) h = misses-dropped k d es (or-parts (eqb (key e) k) (has-key key k es) h .1)

@@ -1,4 +1,5 @@
 pub mod Callers
+pub mod DrainSteps
 pub mod Entries
 pub mod Fronts
 pub mod Growth
@@ -9,6 +10,7 @@ pub mod Lines
 pub mod Logs
 pub mod Maps
 pub mod NewEngine
+pub mod Nexts
 pub mod Phases
 pub mod Plan
 pub mod Quiet

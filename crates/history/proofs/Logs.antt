@@ -121,6 +121,10 @@ put-in-finds xs (e ∷ es) a o l =
         ∙ written-word xs e a true p l
     go false p r = r ∙ ap (λ (v : ℕ). word-or v (first-with address-of a es)) (written-word xs e a false p l)
 
+pub put-in-length : (xs : List ℕ) (es : List WriteEntry) → length (put-in xs es) ≡ length xs
+put-in-length xs [] = refl
+put-in-length xs (e ∷ es) = put-in-length (set xs (e .address) (e .word)) es ∙ length-set xs (e .address) (e .word)
+
 -- entries that were put in leave an address that none of them has
 pub put-in-misses : (xs : List ℕ) (es : List WriteEntry) (a : ℕ) → has-key (λ e. e .address) a es ≡ false →
     getD (put-in xs es) a 0 ≡ getD xs a 0
