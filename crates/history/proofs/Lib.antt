@@ -1,4 +1,5 @@
 pub mod Callers
+pub mod Drain
 pub mod DrainSteps
 pub mod Entries
 pub mod Fronts
