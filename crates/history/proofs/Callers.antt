@@ -1,17 +1,35 @@
--- The caller's transaction after a call that does not lose it, and the draining threads that do not call.
+-- What is known of a caller, its transaction after a call that does not lose it, and the draining threads that do not call.
 use Prim.Native.Nat.{ℕ}
 use lib.ListN.{length}
+use mathlib.Core.List.{List}
 use mathlib.Core.Path.{_≡_, refl, ap, sym, _∙_}
 use native.Mathlib.Omega.{arith}
 use Rattle.common.specs.declared.loss.Loss.{Loss}
-use Rattle.history.proofs.Invariant.{Draining}
+use Rattle.history.proofs.Invariant.{Fits, Running-fits, Sealed-fits, Draining, front}
 use Rattle.history.proofs.Lines.{leads-at, present-caller}
+use Rattle.history.proofs.Phases.{fits-running, fits-sealed}
 use Rattle.history.specs.Record.{History, Line, Work, caller, deed, acted, watched, fallen, told-loss, or-else, after-line}
 use Rattle.layout.specs.declared.set_up.SetUp.{SetUp}
-use Rattle.rules.specs.States.{State, Thread, thread-of}
+use Rattle.rules.specs.Conflicts.{owner-of}
+use Rattle.rules.specs.States.{State, World, Thread, thread-of}
 use Rattle.rules.specs.declared.phase.Phase.the-variants.{Running, Sealed}
 use Rattle.std.specs.declared.option.Option.{Option}
 use Rattle.std.specs.declared.option.Option.the-variants.{None}
+
+-- what the invariant says of a running thread
+pub runs : (ws : List ℕ) (base : ℕ) (w : World) (h : History) (n : ℕ) → Fits ws base w h → thread-of (w .engine) n .phase ≡ Running →
+    Running-fits (w .engine .set-up) ws (h .updaters) base (front (w .engine)) (owner-of (w .engine)) n (thread-of (w .engine) n) (h .present n .work) (h .present n .fall)
+runs ws base w h n f r =
+    fits-running (w .engine .set-up) ws (h .updaters) base (front (w .engine)) (owner-of (w .engine)) n (thread-of (w .engine) n)
+    (h .present n .work) (h .present n .fall) (thread-of (w .engine) n .phase) r (f .seats n .phase)
+
+-- what the invariant says of a sealed thread
+pub holds-on : (ws : List ℕ) (base : ℕ) (w : World) (h : History) (n ticket drained : ℕ) → Fits ws base w h →
+    thread-of (w .engine) n .phase ≡ Sealed ticket drained →
+    Sealed-fits (w .engine .set-up) (h .updaters) base (owner-of (w .engine)) n ticket drained (thread-of (w .engine) n) (h .present n .work) (h .present n .fall)
+holds-on ws base w h n ticket drained f e =
+    fits-sealed (w .engine .set-up) ws (h .updaters) base (front (w .engine)) (owner-of (w .engine)) n (thread-of (w .engine) n)
+    (h .present n .work) (h .present n .fall) (thread-of (w .engine) n .phase) ticket drained e (f .seats n .phase)
 
 -- the caller's transaction has acted, if no loss is told or kept
 pub present-unlost : (u : SetUp) (h : History) (l : Line) → told-loss (l .answer) ≡ None → l .losses (caller (l .call)) ≡ None →

@@ -9,19 +9,21 @@ use mathlib.Core.Path.{_≡_, refl, ap, sym, subst, _∙_}
 use native.Mathlib.Omega.{arith}
 use Rattle.common.specs.declared.refusal.Refusal.{Refusal}
 use Rattle.common.specs.declared.refusal.Refusal.the-variants.{WrongState}
-use Rattle.history.proofs.DrainSteps.{Drain-step, drained-world, drained-outcome, drained-once, holds-on, held-by, no-thread-0, step-keeps}
-use Rattle.history.proofs.Entries.{misses-dropped}
+use Rattle.history.proofs.Callers.{holds-on}
+use Rattle.history.proofs.DrainSteps.{Drain-step, drained-world, drained-outcome, drained-once, held-by, step-keeps}
+use Rattle.history.proofs.Replacing.{misses-dropped}
 use Rattle.history.proofs.Fronts.{hold-none}
 use Rattle.history.proofs.Invariant.{Fits, Front, Sealed-fits, Phase-fits, front, hold-of, left-in, top, top-of}
 use Rattle.history.proofs.Logs.{put-in-length, put-in-misses}
 use Rattle.history.proofs.Maps.{at-put-same, at-put-other, at-each}
 use Rattle.history.proofs.Nexts.{next-some, next-none}
+use Rattle.history.proofs.Nobody.{no-thread-0}
 use Rattle.history.proofs.Phases.{admitted-parts}
 use Rattle.history.proofs.Plan.{Kept, Drain-keeps}
 use Rattle.history.proofs.Refusals.{refused-keeps}
-use Rattle.history.specs.Record.{History, Work, called, no-work}
+use Rattle.history.specs.Record.{History, called, no-work}
 use Rattle.history.specs.Runs.{loss-in}
-use Rattle.history.specs.Serial.{put-in, write-log, drain-count, not-drained}
+use Rattle.history.specs.Serial.{put-in, write-log, drain-count}
 use Rattle.layout.specs.Lookups.{has-key}
 use Rattle.layout.specs.SetUps.{stripe-of}
 use Rattle.layout.specs.declared.entries.WriteEntry.{WriteEntry}

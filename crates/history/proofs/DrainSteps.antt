@@ -1,17 +1,17 @@
 -- What a drain has to leave for the invariant to be kept: the same for the last word and for the ones before.
-use Prim.Native.Nat.{ℕ, _+_, _<_, _≤_}
+use Prim.Native.Nat.{ℕ, _<_, _≤_}
 use lib.ListN.{length, getD, set, drop}
-use mathlib.Core.Bool.{Bool, true, false}
-use mathlib.Core.List.{List, [], _∷_}
+use mathlib.Core.Bool.{Bool, true}
+use mathlib.Core.List.{List, []}
 use mathlib.Core.Logic.{_⊎_, inl, inr}
 use mathlib.Core.Path.{_≡_, refl, ap, sym, subst, _∙_}
 use native.Mathlib.Omega.{arith}
 use Rattle.history.proofs.Callers.{present-unlost, draining-other}
-use Rattle.history.proofs.Growth.{Grows, loads-grow, point-grows, points-grow, spared-grows, all-spared-grow}
+use Rattle.history.proofs.Growth.{Grows, loads-grow, point-grows, points-grow, all-spared-grow}
 use Rattle.history.proofs.Invariant.{Fits, Front, Hold, Stripe-fits, Word-fits, Sealed-fits, Phase-fits, Seat, Draining, Spent, front, hold-in, hold-of, left-in, left-of, top, top-of}
 use Rattle.history.proofs.Lines.{leads-at}
 use Rattle.history.proofs.Logs.{drain-grows, put-in-same}
-use Rattle.history.proofs.Phases.{fits-sealed}
+use Rattle.history.proofs.Nobody.{seat-nobody}
 use Rattle.history.proofs.Plan.{Kept, then}
 use Rattle.history.proofs.Quiet.{quiet-state}
 use Rattle.history.proofs.Seats.{Apart, seat-apart, seat-other, number-other}
@@ -21,8 +21,6 @@ use Rattle.history.specs.Runs.{loss-in, line-of}
 use Rattle.history.specs.Serial.{put-in, serial-run, not-drained}
 use Rattle.layout.specs.Lookups.{has-key}
 use Rattle.layout.specs.SetUps.{stripe-of}
-use Rattle.layout.specs.declared.entries.WriteEntry.{WriteEntry}
-use Rattle.layout.specs.declared.set_up.SetUp.{SetUp}
 use Rattle.rules.specs.Admission.{is-thread}
 use Rattle.rules.specs.Conflicts.{owner-of}
 use Rattle.rules.specs.Maps.{Map, at}
@@ -30,8 +28,7 @@ use Rattle.rules.specs.Outcomes.{Outcome, Table}
 use Rattle.rules.specs.States.{State, World, Stripe, Thread, thread-of}
 use Rattle.rules.specs.declared.answer.Answer.the-variants.{Left}
 use Rattle.rules.specs.declared.call.Call.the-variants.{Drain}
-use Rattle.rules.specs.declared.phase.Phase.{Phase}
-use Rattle.rules.specs.declared.phase.Phase.the-variants.{Idle, Sealed}
+use Rattle.rules.specs.declared.phase.Phase.the-variants.{Sealed}
 use Rattle.std.proofs.shelf.Lists.{length-set, getD-set-same, getD-set-other, take-all}
 use Rattle.std.proofs.shelf.Tests.{both-ways, cases-eq}
 use Rattle.std.specs.declared.option.Option.{Option}
@@ -79,34 +76,11 @@ drained-history w h beats n place j now ss ts = record {
   past = h .past;
 }
 
--- what the invariant says of a sealed thread
-pub holds-on : (ws : List ℕ) (base : ℕ) (w : World) (h : History) (n ticket drained : ℕ) → Fits ws base w h →
-    thread-of (w .engine) n .phase ≡ Sealed ticket drained →
-    Sealed-fits (w .engine .set-up) (h .updaters) base (owner-of (w .engine)) n ticket drained (thread-of (w .engine) n) (h .present n .work) (h .present n .fall)
-holds-on ws base w h n ticket drained f e =
-    fits-sealed (w .engine .set-up) ws (h .updaters) base (front (w .engine)) (owner-of (w .engine)) n (thread-of (w .engine) n)
-    (h .present n .work) (h .present n .fall) (thread-of (w .engine) n .phase) ticket drained e (f .seats n .phase)
-
 -- how a sealed thread holds its stripes
 pub held-by : (st : State) (n ticket drained s : ℕ) → thread-of st n .phase ≡ Sealed ticket drained → owner-of st s ≡ n →
     front st s .hold ≡ Some (record { ticket = ticket; left = drop drained (thread-of st n .writes) })
 held-by st n ticket drained s p e =
     ap (λ (k : ℕ). hold-of (thread-of st k)) e ∙ ap (hold-in (thread-of st n .writes)) p
-
--- 0 is no thread's number
-pub no-thread-0 : (u : SetUp) (n : ℕ) → is-thread u n ≡ true → 0 ≡ n → ⊥
-no-thread-0 u n i e = both-ways false refl (subst (λ (k : ℕ). is-thread u k ≡ true) (sym e) i)
-
--- number 0, which no thread has, may own what it likes
-pub seat-nobody : (u : SetUp) (ws : List ℕ) (us vs : List Work) (fs gs : ℕ → Front) (owner owner′ : ℕ → ℕ) (base : ℕ)
-    (t : Thread) (x : Transaction) → Grows ws us vs → Seat u ws us base fs owner 0 t x → Seat u ws vs base gs owner′ 0 t x
-seat-nobody u ws us vs fs gs owner owner′ base t x g s = record {
-  named = s .named;
-  inside = s .inside;
-  phase = subst (λ (p : Phase). Phase-fits u ws vs base gs owner′ 0 t (x .work) (x .fall) p) (sym (s .inside refl)) (λ k e. refl);
-  point = point-grows ws us vs g (x .work) (s .point);
-  spared = spared-grows ws us vs g u (x .work) (x .fall) (s .spared);
-}
 
 module _ (ws : List ℕ) (base : ℕ) (w : World) (h : History) (beats : Table) (n ticket drained j : ℕ) (now : List ℕ) (ss : Map Stripe)
     (ts : Map Thread) (f : Fits ws base w h)

@@ -1,7 +1,6 @@
 pub mod Callers
 pub mod Drain
 pub mod DrainSteps
-pub mod Entries
 pub mod Fronts
 pub mod Growth
 pub mod Induction
@@ -12,11 +11,13 @@ pub mod Logs
 pub mod Maps
 pub mod NewEngine
 pub mod Nexts
+pub mod Nobody
 pub mod Phases
 pub mod Plan
 pub mod Quiet
 pub mod ReaderSeal
 pub mod Refusals
+pub mod Replacing
 pub mod Seal
 pub mod Seats
 pub mod UpdaterSeal

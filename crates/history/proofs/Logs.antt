@@ -7,7 +7,7 @@ use mathlib.Core.List.{List, [], _∷_, _++_}
 use mathlib.Core.Logic.{_⊎_, inl, inr}
 use mathlib.Core.Path.{_≡_, refl, ap, sym, subst, _∙_}
 use native.Mathlib.Omega.{arith}
-use Rattle.history.proofs.Entries.{Once, finds-replaced, finds-pushed, once-replaced, once-pushed}
+use Rattle.history.proofs.Replacing.{Once, finds-replaced, finds-pushed, once-replaced, once-pushed}
 use Rattle.history.proofs.Keys.{found-has}
 use Rattle.history.proofs.Plan.{Log-finds-kept, Sealed-word, Push-grows, Drain-grows}
 use Rattle.history.specs.Law.{updater, words-at}

@@ -6,13 +6,12 @@ use mathlib.Core.List.{List, [], _∷_}
 use mathlib.Core.Logic.{_⊎_, inl, inr}
 use mathlib.Core.Path.{_≡_, refl, ap, sym, subst, _∙_}
 use Rattle.contention.specs.Events.{seal-of}
-use Rattle.history.proofs.Callers.{present-unlost, draining-other, running-not-draining}
+use Rattle.history.proofs.Callers.{runs, present-unlost, draining-other, running-not-draining}
 use Rattle.history.proofs.Fronts.{hold-none, fronts-kept, holds-put}
-use Rattle.history.proofs.Invariant.{Fits, Running-fits, Seat, front}
+use Rattle.history.proofs.Invariant.{Fits, Seat, front}
 use Rattle.history.proofs.Lines.{leads-at}
 use Rattle.history.proofs.Logs.{stored-logged}
 use Rattle.history.proofs.Maps.{at-put-same, at-put-other}
-use Rattle.history.proofs.Phases.{fits-running}
 use Rattle.history.proofs.Plan.{Kept, then}
 use Rattle.history.proofs.Quiet.{quiet-keeps, quiet-state, quiet-outcome}
 use Rattle.history.proofs.Seats.{seat-other, number-other}
@@ -33,13 +32,6 @@ use Rattle.rules.specs.declared.phase.Phase.the-variants.{Idle, Running}
 use Rattle.std.proofs.shelf.Lists.{nil-from-length}
 use Rattle.std.proofs.shelf.Tests.{both-ways, cases-eq}
 use Rattle.std.specs.declared.option.Option.{Option}
-
--- what the invariant says of a running thread
-pub runs : (ws : List ℕ) (base : ℕ) (w : World) (h : History) (n : ℕ) → Fits ws base w h → thread-of (w .engine) n .phase ≡ Running →
-    Running-fits (w .engine .set-up) ws (h .updaters) base (front (w .engine)) (owner-of (w .engine)) n (thread-of (w .engine) n) (h .present n .work) (h .present n .fall)
-runs ws base w h n f r =
-    fits-running (w .engine .set-up) ws (h .updaters) base (front (w .engine)) (owner-of (w .engine)) n (thread-of (w .engine) n)
-    (h .present n .work) (h .present n .fall) (thread-of (w .engine) n .phase) r (f .seats n .phase)
 
 -- the threads after a reader's seal
 abbrev left-idle : State → ℕ → Map Thread

@@ -9,12 +9,13 @@ use native.Mathlib.Omega.{arith}
 use Rattle.common.specs.declared.loss.Loss.{Loss}
 use Rattle.common.specs.declared.loss.Loss.the-variants.{Invalid, ClockSpent}
 use Rattle.common.specs.declared.refusal.Refusal.{Refusal}
+use Rattle.history.proofs.Callers.{runs}
 use Rattle.history.proofs.Invariant.{Fits}
 use Rattle.history.proofs.Maps.{at-put-same, at-put-other}
 use Rattle.history.proofs.Phases.{admitted-parts, running-phase}
 use Rattle.history.proofs.Plan.{Kept, Seal-keeps, Lost-keeps, Refresh-agrees, Invalid-excuses}
 use Rattle.history.proofs.Quiet.{quiet-state}
-use Rattle.history.proofs.ReaderSeal.{runs, reader-keeps}
+use Rattle.history.proofs.ReaderSeal.{reader-keeps}
 use Rattle.history.proofs.Refusals.{refused-keeps}
 use Rattle.history.proofs.UpdaterSeal.{ticketed, updater-keeps}
 use Rattle.history.specs.Law.{Excused, Loads-at}

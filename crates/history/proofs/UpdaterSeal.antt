@@ -7,14 +7,13 @@ use mathlib.Core.Logic.{_⊎_, inl, inr}
 use mathlib.Core.Path.{_≡_, refl, ap, sym, subst, _∙_}
 use native.Mathlib.Omega.{arith}
 use Rattle.contention.specs.Events.{seal-of}
-use Rattle.history.proofs.Callers.{present-unlost, draining-other, running-not-draining}
+use Rattle.history.proofs.Callers.{runs, present-unlost, draining-other, running-not-draining}
 use Rattle.history.proofs.Fronts.{hold-none}
 use Rattle.history.proofs.Growth.{Grows, loads-grow, point-grows, points-grow, all-spared-grow}
 use Rattle.history.proofs.Invariant.{Fits, Front, Hold, Stripe-fits, Word-fits, Overtaken, Seat, Spent, front, hold-of, left-of, top, stores-in}
 use Rattle.history.proofs.Lines.{leads-at}
 use Rattle.history.proofs.Logs.{stored-logged, sealed-word, push-grows, put-in-misses, put-in-same, serial-length}
 use Rattle.history.proofs.Plan.{Kept, then}
-use Rattle.history.proofs.ReaderSeal.{runs}
 use Rattle.history.proofs.Seats.{Apart, seat-apart, seat-other, number-other}
 use Rattle.history.specs.Law.{updater, Loads-at, Spared}
 use Rattle.history.specs.Record.{History, Transaction, Work, Fall, called-seal, with-work, watched, rewritten, no-work}
