@@ -14,7 +14,7 @@ use Rattle.history.proofs.DrainSteps.{Drain-step, drained-world, drained-outco
 use Rattle.history.proofs.Replacing.{misses-dropped}
 use Rattle.history.proofs.Fronts.{hold-none}
 use Rattle.history.proofs.Invariant.{Fits, Front, Sealed-fits, Phase-fits, front, hold-of, left-in, top, top-of}
-use Rattle.history.proofs.Logs.{put-in-length, put-in-misses}
+use Rattle.history.proofs.Logs.{misses-unowned, put-in-length, put-in-misses}
 use Rattle.history.proofs.Maps.{at-put-same, at-put-other, at-each}
 use Rattle.history.proofs.Nexts.{next-some, next-none}
 use Rattle.history.proofs.Nobody.{no-thread-0}
@@ -39,7 +39,7 @@ use Rattle.rules.specs.declared.kind.Kind.the-variants.{Drain as Draining}
 use Rattle.rules.specs.declared.phase.Phase.{Phase}
 use Rattle.rules.specs.declared.phase.Phase.the-variants.{Idle, Running, Sealed, Lost}
 use Rattle.std.proofs.shelf.Lists.{length-set, getD-set-same, getD-set-other, drop-all}
-use Rattle.std.proofs.shelf.Tests.{eqb-true, eqb-false, eq-eqb, ne-eqb, cond-true, cond-false, or-parts, cases-bool, cases-eq}
+use Rattle.std.proofs.shelf.Tests.{eqb-true, eqb-false, eq-eqb, ne-eqb, cond-true, cond-false, or-parts, cases-eq}
 use Rattle.std.specs.Finite.{nth}
 use Rattle.std.specs.declared.option.Option.{Option}
 use Rattle.std.specs.declared.option.Option.the-variants.{Some, None}
@@ -54,20 +54,6 @@ entered st n p = put (st .threads) n (with-phase (thread-of st n) p)
 abbrev all-freed : State → ℕ → ℕ → Map Stripe
 all-freed st n ticket = each (freed n (Some ticket)) (st .stripes)
 
--- an address of a stripe that is another's is not to be drained
-not-left : (w : World) (n drained a : ℕ) →
-    ((b : ℕ) → has-key (λ e. e .address) b (thread-of (w .engine) n .writes) ≡ true → owner-of (w .engine) (stripe-of (w .engine .set-up) b) ≡ n) →
-    (owner-of (w .engine) (stripe-of (w .engine .set-up) a) ≡ n → ⊥) →
-    has-key (λ e. e .address) a (drop drained (thread-of (w .engine) n .writes)) ≡ false
-not-left w n drained a owns d =
-    misses-dropped (λ (e : WriteEntry). e .address) a drained (thread-of (w .engine) n .writes)
-    (go (cases-bool (has-key (λ (e : WriteEntry). e .address) a (thread-of (w .engine) n .writes))))
-  where
-    go : (has-key (λ (e : WriteEntry). e .address) a (thread-of (w .engine) n .writes) ≡ true) ⊎ (has-key (λ (e : WriteEntry). e .address) a (thread-of (w .engine) n .writes) ≡ false) →
-        has-key (λ (e : WriteEntry). e .address) a (thread-of (w .engine) n .writes) ≡ false
-    go (inl e) = absurd (d (owns a e))
-    go (inr e) = e
-
 module _ (ws : List ℕ) (base : ℕ) (w : World) (h : History) (beats : Table) (n ticket drained : ℕ) (f : Fits ws base w h)
     (inside : is-thread (w .engine .set-up) n ≡ true) (sealed : thread-of (w .engine) n .phase ≡ Sealed ticket drained) where
 
@@ -79,6 +65,13 @@ module _ (ws : List ℕ) (base : ℕ) (w : World) (h : History) (beats : Table) 
 
   other-entered : (p : Phase) (k : ℕ) → (k ≡ n → ⊥) → at (entered (w .engine) n p) k ≡ thread-of (w .engine) k
   other-entered p k d = at-put-other (w .engine .threads) n k (with-phase (thread-of (w .engine) n) p) d
+
+  -- an address of a stripe that is another's is not to be drained
+  not-left : (a : ℕ) → (owner-of (w .engine) (stripe-of (w .engine .set-up) a) ≡ n → ⊥) →
+      has-key (λ e. e .address) a (drop drained (thread-of (w .engine) n .writes)) ≡ false
+  not-left a d =
+      misses-dropped (λ (e : WriteEntry). e .address) a drained (thread-of (w .engine) n .writes)
+      (misses-unowned (w .engine .set-up) (owner-of (w .engine)) n (thread-of (w .engine) n .writes) a (q .owns-log) d)
 
   -- a word that is not the last: the thread stays sealed and holds its stripes with one entry less
   module _ (e : WriteEntry) (next : drop drained (thread-of (w .engine) n .writes) ≡ e ∷ drop (drained + 1) (thread-of (w .engine) n .writes)) where
@@ -98,7 +91,7 @@ module _ (ws : List ℕ) (base : ℕ) (w : World) (h : History) (beats : Table) 
     on-words : (a : ℕ) → (owner-of (w .engine) (stripe-of (w .engine .set-up) a) ≡ n → ⊥) → getD (w .words) a 0 ≡ getD (on .words) a 0
     on-words a d =
         let none : has-key (λ (y : WriteEntry). y .address) a (e ∷ drop (drained + 1) (thread-of (w .engine) n .writes)) ≡ false =
-            ap (has-key (λ y. y .address) a) (sym next) ∙ not-left w n drained a (q .owns-log) d in
+            ap (has-key (λ y. y .address) a) (sym next) ∙ not-left a d in
         let apart = or-parts (eqb (e .address) a) (has-key (λ y. y .address) a (drop (drained + 1) (thread-of (w .engine) n .writes))) none .0 in
         sym (getD-set-other (w .words) (e .address) a (e .word) 0 (λ x. eqb-false (e .address) a apart (sym x)))
 
@@ -195,7 +188,7 @@ module _ (ws : List ℕ) (base : ℕ) (w : World) (h : History) (beats : Table) 
       rises = λ s p. omega (arith, ap (λ (y : Front). y .version) (front-off s p));
       lefts = λ s p. all ∙ ap (λ (y : Front). put-in now (left-in y)) (sym (front-off s p));
       words-other = λ a d.
-          sym (put-in-misses (w .words) (drop drained (thread-of (w .engine) n .writes)) a (not-left w n drained a (q .owns-log) d))
+          sym (put-in-misses (w .words) (drop drained (thread-of (w .engine) n .writes)) a (not-left a d))
           ∙ ap (λ (xs : List ℕ). getD xs a 0) all;
       gains = λ k s z d p. off-gains k s z p (cases-eq (owner-of (w .engine) s) n);
       keeps = λ k s d p. ap (λ (y : Stripe). y .owner) (stripe-other s (λ own. d (sym p ∙ own))) ∙ p;

@@ -8,6 +8,7 @@ use mathlib.Core.Logic.{_⊎_, inl, inr}
 use mathlib.Core.Path.{_≡_, refl, ap, sym, subst, _∙_}
 use native.Mathlib.Omega.{arith}
 use Rattle.history.proofs.Replacing.{Once, finds-replaced, finds-pushed, once-replaced, once-pushed}
+use Rattle.history.proofs.Invariant.{Owns-log}
 use Rattle.history.proofs.Keys.{found-has}
 use Rattle.history.proofs.Plan.{Log-finds-kept, Sealed-word, Push-grows, Drain-grows}
 use Rattle.history.specs.Law.{updater, words-at}
@@ -176,6 +177,24 @@ pub stored-logged : (u : SetUp) (s : ℕ) (cs : List Call) → has-key (λ e. st
 stored-logged u s cs h =
     let r = entry-in-stripe u s (kept cs) h in
     (r .0, log-has-kept cs (r .0) ∙ r .1, r .2)
+
+-- a test that does not hold fails
+fails : (b : Bool) → (b ≡ true → ⊥) → b ≡ false
+fails true d = absurd (d refl)
+fails false d = refl
+
+-- a write log whose stripes are a thread's own has no address of another stripe
+pub misses-unowned : (u : SetUp) (owner : ℕ → ℕ) (n : ℕ) (es : List WriteEntry) (a : ℕ) → Owns-log u owner n es →
+    (owner (stripe-of u a) ≡ n → ⊥) → has-key (λ e. e .address) a es ≡ false
+misses-unowned u owner n es a owns d = fails (has-key address-of a es) (λ e. d (owns a e))
+
+-- nor did its transaction store in one
+pub unowned-unstored : (u : SetUp) (owner : ℕ → ℕ) (n s : ℕ) (cs : List Call) → Owns-log u owner n (write-log cs) →
+    (owner s ≡ n → ⊥) → has-key (λ e. stripe-of u (e .address)) s (kept cs) ≡ false
+unowned-unstored u owner n s cs owns d = fails (has-key (λ (e : WriteEntry). stripe-of u (e .address)) s (kept cs)) never
+  where
+    never : has-key (λ (e : WriteEntry). stripe-of u (e .address)) s (kept cs) ≡ true → ⊥
+    never e = let x = stored-logged u s cs e in d (ap owner (sym (x .2)) ∙ owns (x .0) (x .1))
 
 -- the serial run with one more updater moves in what it kept
 serial-pushed : (ws : List ℕ) (us : List Work) (w : Work) →

@@ -10,16 +10,15 @@ use Rattle.contention.specs.Events.{seal-of}
 use Rattle.history.proofs.Callers.{runs, present-unlost, draining-other, running-not-draining}
 use Rattle.history.proofs.Fronts.{hold-none}
 use Rattle.history.proofs.Growth.{Grows, loads-grow, point-grows, points-grow, all-spared-grow}
-use Rattle.history.proofs.Invariant.{Fits, Front, Hold, Stripe-fits, Word-fits, Overtaken, Seat, Spent, front, hold-of, left-of, top, stores-in}
+use Rattle.history.proofs.Invariant.{Fits, Front, Hold, Stripe-fits, Word-fits, Overtaken, Owns-log, Seat, Spent, front, hold-of, left-of, top, stores-in}
 use Rattle.history.proofs.Lines.{leads-at}
-use Rattle.history.proofs.Logs.{stored-logged, sealed-word, push-grows, put-in-misses, put-in-same, serial-length}
+use Rattle.history.proofs.Logs.{misses-unowned, unowned-unstored, sealed-word, push-grows, put-in-misses, put-in-same, serial-length}
 use Rattle.history.proofs.Plan.{Kept, then}
 use Rattle.history.proofs.Seats.{Apart, seat-apart, seat-other, number-other}
 use Rattle.history.specs.Law.{updater, Loads-at, Spared}
 use Rattle.history.specs.Record.{History, Transaction, Work, Fall, called-seal, with-work, watched, rewritten, no-work}
 use Rattle.history.specs.Runs.{loss-in, line-of}
 use Rattle.history.specs.Serial.{put-in, serial-run, write-log, not-drained}
-use Rattle.layout.specs.Lookups.{has-key}
 use Rattle.layout.specs.SetUps.{stripe-of}
 use Rattle.layout.specs.declared.entries.WriteEntry.{WriteEntry}
 use Rattle.rules.specs.Admission.{is-thread}
@@ -32,7 +31,7 @@ use Rattle.rules.specs.declared.call.Call.the-variants.{Seal}
 use Rattle.rules.specs.declared.ending.Sealed.the-variants.{Updater}
 use Rattle.rules.specs.declared.phase.Phase.the-variants.{Running, Sealed as Holding}
 use Rattle.std.proofs.shelf.Lists.{length-push, getD-append-left, getD-push}
-use Rattle.std.proofs.shelf.Tests.{both-ways, cases-bool, cases-eq, cases-lt}
+use Rattle.std.proofs.shelf.Tests.{both-ways, cases-eq, cases-lt}
 use Rattle.std.specs.declared.option.Option.{Option}
 use Rattle.std.specs.declared.option.Option.the-variants.{Some, None}
 
@@ -98,28 +97,18 @@ module _ (ws : List ℕ) (base : ℕ) (w : World) (h : History) (beats : Table) 
     hold = ap hold-of (apart (owner-of (w .engine) s) d) i;
   }
 
-  -- what a transaction stored in is its thread's
-  stores-owned : (s : ℕ) → stores-in (w .engine .set-up) s (h .present n .work) ≡ true → owner-of (w .engine) s ≡ n
-  stores-owned s e =
+  -- the new updater's write log has only addresses of its own stripes
+  owns : Owns-log (w .engine .set-up) (owner-of (w .engine)) n (write-log (h .present n .work .calls))
+  owns =
       let r = runs ws base w h n f running in
-      let x = stored-logged (w .engine .set-up) s (h .present n .work .calls) e in
-      ap (owner-of (w .engine)) (sym (x .2))
-      ∙ r .owns-log (x .0) (ap (has-key (λ y. y .address) (x .0)) (r .log) ∙ x .1)
-
-  stores-not : (s : ℕ) → (owner-of (w .engine) s ≡ n → ⊥) → stores-in (w .engine .set-up) s (h .present n .work) ≡ false
-  stores-not s d = go (cases-bool (stores-in (w .engine .set-up) s (h .present n .work)))
-    where
-      go : (stores-in (w .engine .set-up) s (h .present n .work) ≡ true) ⊎ (stores-in (w .engine .set-up) s (h .present n .work) ≡ false) →
-          stores-in (w .engine .set-up) s (h .present n .work) ≡ false
-      go (inl e) = absurd (d (stores-owned s e))
-      go (inr e) = e
+      subst (λ (es : List WriteEntry). Owns-log (w .engine .set-up) (owner-of (w .engine)) n es) (r .log) (r .owns-log)
 
   -- a stripe of another thread, or of none: the new updater stored nothing there
   untouched-other : (s : ℕ) → (owner-of (w .engine) s ≡ n → ⊥) → (k : ℕ) → base + top (front (w .engine) s) ≤ k → k < length (one-more h n) →
       (k < length (h .updaters)) ⊎ (length (h .updaters) ≤ k) → stores-in (w .engine .set-up) s (updater (one-more h n) k) ≡ false
   untouched-other s d k low high (inl l) =
       ap (stores-in (w .engine .set-up) s) (pushed-old h n k l) ∙ f .stripes s .untouched k low l
-  untouched-other s d k low high (inr l) = ap (stores-in (w .engine .set-up) s) (pushed-new h n k l high) ∙ stores-not s d
+  untouched-other s d k low high (inr l) = ap (stores-in (w .engine .set-up) s) (pushed-new h n k l high) ∙ unowned-unstored (w .engine .set-up) (owner-of (w .engine)) n s (h .present n .work .calls) owns d
 
   sealed-stripe : (s : ℕ) → (owner-of (w .engine) s ≡ n) ⊎ (owner-of (w .engine) s ≡ n → ⊥) →
       Stripe-fits (w .engine .set-up) (one-more h n) base (w .engine .clock + 1) s (front (stamped (w .engine) ts) s)
@@ -143,18 +132,6 @@ module _ (ws : List ℕ) (base : ℕ) (w : World) (h : History) (beats : Table) 
   held-by-none s e =
       ap (λ (k : ℕ). hold-of (thread-of (w .engine) k)) e ∙ hold-none (thread-of (w .engine) n) Running running refl
 
-  -- an address of a stripe that is another's is not logged
-  not-logged : (a : ℕ) → (owner-of (w .engine) (stripe-of (w .engine .set-up) a) ≡ n → ⊥) →
-      has-key (λ y. y .address) a (write-log (h .present n .work .calls)) ≡ false
-  not-logged a d = go (cases-bool (has-key (λ (y : WriteEntry). y .address) a (write-log (h .present n .work .calls))))
-    where
-      go : (has-key (λ (y : WriteEntry). y .address) a (write-log (h .present n .work .calls)) ≡ true) ⊎ (has-key (λ (y : WriteEntry). y .address) a (write-log (h .present n .work .calls)) ≡ false) →
-          has-key (λ (y : WriteEntry). y .address) a (write-log (h .present n .work .calls)) ≡ false
-      go (inl e) =
-          let r = runs ws base w h n f running in
-          absurd (d (r .owns-log a (ap (has-key (λ y. y .address) a) (r .log) ∙ e)))
-      go (inr e) = e
-
   sealed-words : (a : ℕ) → a < length (w .words) →
       (owner-of (w .engine) (stripe-of (w .engine .set-up) a) ≡ n) ⊎ (owner-of (w .engine) (stripe-of (w .engine .set-up) a) ≡ n → ⊥) →
       Word-fits (w .engine .set-up) ws (one-more h n) (w .words) (front (stamped (w .engine) ts)) a
@@ -169,7 +146,7 @@ module _ (ws : List ℕ) (base : ℕ) (w : World) (h : History) (beats : Table) 
       ∙ ap (λ (x : Front). getD (put-in (w .words) (left-of (x .hold))) a 0) (sym (front-own s e))
   sealed-words a l (inr d) =
       sealed-word ws (h .updaters) (new-updater h n) a (omega (arith, serial-length ws (h .updaters), f .sized))
-      ∙ put-in-misses (serial-run ws (h .updaters)) (write-log (h .present n .work .calls)) a (not-logged a d)
+      ∙ put-in-misses (serial-run ws (h .updaters)) (write-log (h .present n .work .calls)) a (misses-unowned (w .engine .set-up) (owner-of (w .engine)) n (write-log (h .present n .work .calls)) a owns d)
       ∙ f .words a l
       ∙ ap (λ (x : Front). getD (put-in (w .words) (left-of (x .hold))) a 0) (sym (front-other (stripe-of (w .engine .set-up) a) d))
 
