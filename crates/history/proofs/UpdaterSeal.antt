@@ -10,17 +10,18 @@ use Rattle.contention.specs.Events.{seal-of}
 use Rattle.history.proofs.Callers.{runs, present-unlost, draining-other, running-not-draining}
 use Rattle.history.proofs.Fronts.{hold-none}
 use Rattle.history.proofs.Growth.{Grows, loads-grow, point-grows, points-grow, all-spared-grow}
-use Rattle.history.proofs.Invariant.{Fits, Front, Hold, Stripe-fits, Word-fits, Overtaken, Owns-log, Seat, Spent, front, hold-of, left-of, top, stores-in}
+use Rattle.history.proofs.Invariant.{Fits, Front, Hold, Stripe-fits, Word-fits, Running-fits, Overtaken, Owns-log, Seat, Spent, front, hold-of, left-of, top, stores-in}
 use Rattle.history.proofs.Lines.{leads-at}
 use Rattle.history.proofs.Logs.{misses-unowned, unowned-unstored, sealed-word, push-grows, put-in-misses, put-in-same, serial-length}
 use Rattle.history.proofs.Plan.{Kept, then}
 use Rattle.history.proofs.Seats.{Apart, seat-apart, seat-other, number-other}
 use Rattle.history.specs.Law.{updater, Loads-at, Spared}
-use Rattle.history.specs.Record.{History, Transaction, Work, Fall, called-seal, with-work, watched, rewritten, no-work}
+use Rattle.history.specs.Record.{History, Line, Transaction, Work, Fall, called-seal, with-work, watched, rewritten, no-work}
 use Rattle.history.specs.Runs.{loss-in, line-of}
 use Rattle.history.specs.Serial.{put-in, serial-run, write-log, not-drained}
 use Rattle.layout.specs.SetUps.{stripe-of}
 use Rattle.layout.specs.declared.entries.WriteEntry.{WriteEntry}
+use Rattle.layout.specs.declared.set_up.SetUp.{SetUp}
 use Rattle.rules.specs.Admission.{is-thread}
 use Rattle.rules.specs.Conflicts.{owner-of}
 use Rattle.rules.specs.Maps.{Map, at}
@@ -55,15 +56,6 @@ new-updater h n = called-seal (Seal n) (length (h .updaters)) (h .present n .wor
 abbrev one-more : History → ℕ → List Work
 one-more h n = h .updaters ++ new-updater h n ∷ []
 
--- the history after the seal of an updater
-abbrev sealed-history : World → History → Table → ℕ → Map Thread → History
-sealed-history w h beats n ts = record {
-  stored = w .words;
-  updaters = one-more h n;
-  present = then w h beats (Seal n) (updater-sealed w n ts) .present;
-  past = h .past;
-}
-
 -- what a stripe of the new updater shows
 abbrev own-front : State → ℕ → ℕ → Front
 own-front st n s =
@@ -84,100 +76,127 @@ module _ (ws : List ℕ) (base : ℕ) (w : World) (h : History) (beats : Table) 
     (agrees : Loads-at ws (h .updaters) (length (h .updaters)) (h .present n .work))
     (own : at ts n ≡ ticketed (w .engine) n end)
     (apart : (k : ℕ) → (k ≡ n → ⊥) → at ts k ≡ thread-of (w .engine) k) where
+  abbrev u : SetUp
+  u = w .engine .set-up
 
-  front-own : (s : ℕ) → owner-of (w .engine) s ≡ n → front (stamped (w .engine) ts) s ≡ own-front (w .engine) n s
+  abbrev us : List Work
+  us = h .updaters
+
+  abbrev owners : ℕ → ℕ
+  owners = owner-of (w .engine)
+
+  -- the work before the seal, and the updaters after it
+  abbrev mine : Work
+  mine = h .present n .work
+
+  abbrev more : List Work
+  more = one-more h n
+
+  -- the engine, the line and the history after the seal
+  abbrev after : State
+  after = stamped (w .engine) ts
+
+  abbrev line : Line
+  line = line-of beats (Seal n) (updater-sealed w n ts)
+
+  abbrev next : History
+  next = record { stored = w .words; updaters = more; present = then w h beats (Seal n) (updater-sealed w n ts) .present; past = h .past }
+
+  run : Running-fits u ws us base (front (w .engine)) owners n (thread-of (w .engine) n) mine (h .present n .fall)
+  run = runs ws base w h n f running
+
+  longer : length more ≡ length us + 1
+  longer = length-push us (new-updater h n)
+
+  front-own : (s : ℕ) → owners s ≡ n → front after s ≡ own-front (w .engine) n s
   front-own s e = λ i. record {
     version = stripe-at (w .engine) s .version;
     hold = (ap (λ (k : ℕ). hold-of (at ts k)) e ∙ ap hold-of own) i;
   }
 
-  front-other : (s : ℕ) → (owner-of (w .engine) s ≡ n → ⊥) → front (stamped (w .engine) ts) s ≡ front (w .engine) s
+  front-other : (s : ℕ) → (owners s ≡ n → ⊥) → front after s ≡ front (w .engine) s
   front-other s d = λ i. record {
     version = stripe-at (w .engine) s .version;
-    hold = ap hold-of (apart (owner-of (w .engine) s) d) i;
+    hold = ap hold-of (apart (owners s) d) i;
   }
 
   -- the new updater's write log has only addresses of its own stripes
-  owns : Owns-log (w .engine .set-up) (owner-of (w .engine)) n (write-log (h .present n .work .calls))
-  owns =
-      let r = runs ws base w h n f running in
-      subst (λ (es : List WriteEntry). Owns-log (w .engine .set-up) (owner-of (w .engine)) n es) (r .log) (r .owns-log)
+  owns : Owns-log u owners n (write-log (mine .calls))
+  owns = subst (λ (es : List WriteEntry). Owns-log u owners n es) (run .log) (run .owns-log)
 
   -- a stripe of another thread, or of none: the new updater stored nothing there
-  untouched-other : (s : ℕ) → (owner-of (w .engine) s ≡ n → ⊥) → (k : ℕ) → base + top (front (w .engine) s) ≤ k → k < length (one-more h n) →
-      (k < length (h .updaters)) ⊎ (length (h .updaters) ≤ k) → stores-in (w .engine .set-up) s (updater (one-more h n) k) ≡ false
+  untouched-other : (s : ℕ) → (owners s ≡ n → ⊥) → (k : ℕ) → base + top (front (w .engine) s) ≤ k → k < length more →
+      (k < length us) ⊎ (length us ≤ k) → stores-in u s (updater more k) ≡ false
   untouched-other s d k low high (inl l) =
-      ap (stores-in (w .engine .set-up) s) (pushed-old h n k l) ∙ f .stripes s .untouched k low l
-  untouched-other s d k low high (inr l) = ap (stores-in (w .engine .set-up) s) (pushed-new h n k l high) ∙ unowned-unstored (w .engine .set-up) (owner-of (w .engine)) n s (h .present n .work .calls) owns d
+      ap (stores-in u s) (pushed-old h n k l) ∙ f .stripes s .untouched k low l
+  untouched-other s d k low high (inr l) = ap (stores-in u s) (pushed-new h n k l high) ∙ unowned-unstored u owners n s (mine .calls) owns d
 
-  sealed-stripe : (s : ℕ) → (owner-of (w .engine) s ≡ n) ⊎ (owner-of (w .engine) s ≡ n → ⊥) →
-      Stripe-fits (w .engine .set-up) (one-more h n) base (w .engine .clock + 1) s (front (stamped (w .engine) ts) s)
+  sealed-stripe : (s : ℕ) → (owners s ≡ n) ⊎ (owners s ≡ n → ⊥) →
+      Stripe-fits u more base (w .engine .clock + 1) s (front after s)
   sealed-stripe s (inl e) =
-      subst (λ (x : Front). Stripe-fits (w .engine .set-up) (one-more h n) base (w .engine .clock + 1) s x) (sym (front-own s e))
+      subst (λ (x : Front). Stripe-fits u more base (w .engine .clock + 1) s x) (sym (front-own s e))
       (record {
         rises = omega (arith, f .stripes s .rises, f .stripes s .by-clock);
         by-clock = omega arith;
-        untouched = λ k low high. absurd (omega (arith, length-push (h .updaters) (new-updater h n), f .count));
+        untouched = λ k low high. absurd (omega (arith, longer, f .count));
       })
   sealed-stripe s (inr d) =
-      subst (λ (x : Front). Stripe-fits (w .engine .set-up) (one-more h n) base (w .engine .clock + 1) s x) (sym (front-other s d))
+      subst (λ (x : Front). Stripe-fits u more base (w .engine .clock + 1) s x) (sym (front-other s d))
       (record {
         rises = f .stripes s .rises;
         by-clock = omega (arith, f .stripes s .by-clock);
-        untouched = λ k low high. untouched-other s d k low high (cases-lt k (length (h .updaters)));
+        untouched = λ k low high. untouched-other s d k low high (cases-lt k (length us));
       })
 
   -- no sealed thread holds a stripe of a running one
-  held-by-none : (s : ℕ) → owner-of (w .engine) s ≡ n → front (w .engine) s .hold ≡ None
+  held-by-none : (s : ℕ) → owners s ≡ n → front (w .engine) s .hold ≡ None
   held-by-none s e =
       ap (λ (k : ℕ). hold-of (thread-of (w .engine) k)) e ∙ hold-none (thread-of (w .engine) n) Running running refl
 
   sealed-words : (a : ℕ) → a < length (w .words) →
-      (owner-of (w .engine) (stripe-of (w .engine .set-up) a) ≡ n) ⊎ (owner-of (w .engine) (stripe-of (w .engine .set-up) a) ≡ n → ⊥) →
-      Word-fits (w .engine .set-up) ws (one-more h n) (w .words) (front (stamped (w .engine) ts)) a
+      (owners (stripe-of u a) ≡ n) ⊎ (owners (stripe-of u a) ≡ n → ⊥) →
+      Word-fits u ws more (w .words) (front after) a
   sealed-words a l (inl e) =
-      let r = runs ws base w h n f running in
-      let s = stripe-of (w .engine .set-up) a in
-      sealed-word ws (h .updaters) (new-updater h n) a (omega (arith, serial-length ws (h .updaters), f .sized))
-      ∙ put-in-same (serial-run ws (h .updaters)) (w .words) (write-log (h .present n .work .calls)) a
-      (serial-length ws (h .updaters) ∙ sym (f .sized))
+      let s = stripe-of u a in
+      sealed-word ws us (new-updater h n) a (omega (arith, serial-length ws us, f .sized))
+      ∙ put-in-same (serial-run ws us) (w .words) (write-log (mine .calls)) a
+      (serial-length ws us ∙ sym (f .sized))
       (f .words a l ∙ ap (λ (o : Option Hold). getD (put-in (w .words) (left-of o)) a 0) (held-by-none s e))
-      ∙ ap (λ (es : List WriteEntry). getD (put-in (w .words) es) a 0) (sym (r .log))
+      ∙ ap (λ (es : List WriteEntry). getD (put-in (w .words) es) a 0) (sym (run .log))
       ∙ ap (λ (x : Front). getD (put-in (w .words) (left-of (x .hold))) a 0) (sym (front-own s e))
   sealed-words a l (inr d) =
-      sealed-word ws (h .updaters) (new-updater h n) a (omega (arith, serial-length ws (h .updaters), f .sized))
-      ∙ put-in-misses (serial-run ws (h .updaters)) (write-log (h .present n .work .calls)) a (misses-unowned (w .engine .set-up) (owner-of (w .engine)) n (write-log (h .present n .work .calls)) a owns d)
+      sealed-word ws us (new-updater h n) a (omega (arith, serial-length ws us, f .sized))
+      ∙ put-in-misses (serial-run ws us) (write-log (mine .calls)) a (misses-unowned u owners n (write-log (mine .calls)) a owns d)
       ∙ f .words a l
-      ∙ ap (λ (x : Front). getD (put-in (w .words) (left-of (x .hold))) a 0) (sym (front-other (stripe-of (w .engine .set-up) a) d))
+      ∙ ap (λ (x : Front). getD (put-in (w .words) (left-of (x .hold))) a 0) (sym (front-other (stripe-of u a) d))
 
-  grown : Grows ws (h .updaters) (one-more h n)
-  grown = push-grows ws (h .updaters) (new-updater h n)
+  grown : Grows ws us more
+  grown = push-grows ws us (new-updater h n)
 
   -- at its moment the new updater loads what it loaded
-  new-loads : Loads-at ws (one-more h n) (length (h .updaters)) (h .present n .work)
-  new-loads = loads-grow ws (h .updaters) (one-more h n) grown (length (h .updaters)) (h .present n .work) (omega arith) agrees
+  new-loads : Loads-at ws more (length us) mine
+  new-loads = loads-grow ws us more grown (length us) mine (omega arith) agrees
 
   -- the caller's thread is sealed, with the new updater as its transaction
   sealed-own : (b : Bool) →
-      Seat (w .engine .set-up) ws (one-more h n) base (front (stamped (w .engine) ts)) (owner-of (w .engine)) n (ticketed (w .engine) n end)
+      Seat u ws more base (front after) owners n (ticketed (w .engine) n end)
       (with-work (watched b (h .present n)) (new-updater h n))
   sealed-own b =
       let s = f .seats n in
-      let r = runs ws base w h n f running in
-      let p = point-grows ws (h .updaters) (one-more h n) grown (h .present n .work) (s .point) in
+      let p = point-grows ws us more grown mine (s .point) in
       record {
         named = s .named;
-        inside = λ e. absurd (both-ways (is-thread (w .engine .set-up) n) e inside);
+        inside = λ e. absurd (both-ways (is-thread u n) e inside);
         phase = record {
-          place = length (h .updaters);
+          place = length us;
           numbered = refl;
-          standing = r .standing;
+          standing = run .standing;
           by-ticket = omega (arith, f .count);
-          so-far = omega (arith, length-push (h .updaters) (new-updater h n));
-          same = pushed-new h n (length (h .updaters)) (omega arith) (omega (arith, length-push (h .updaters) (new-updater h n)));
-          log = r .log;
-          drains = sym (r .undrained);
-          owns-log = r .owns-log;
+          so-far = omega (arith, longer);
+          same = pushed-new h n (length us) (omega arith) (omega (arith, longer));
+          log = run .log;
+          drains = sym (run .undrained);
+          owns-log = run .owns-log;
         };
         point = record {
           moment = p .moment;
@@ -187,67 +206,67 @@ module _ (ws : List ℕ) (base : ℕ) (w : World) (h : History) (beats : Table) 
           loads = p .loads;
         };
         spared =
-            subst (λ (o : Option Fall). Spared (w .engine .set-up) (one-more h n) (new-updater h n) o) (sym (r .standing)) tt;
+            subst (λ (o : Option Fall). Spared u more (new-updater h n) o) (sym (run .standing)) tt;
       }
 
   -- a read entry of another thread at a stripe of the new updater is overtaken
-  overtakes : (k s : ℕ) → (k ≡ n → ⊥) → owner-of (w .engine) s ≡ n → Overtaken (w .engine .set-up) (one-more h n) k (length (h .updaters)) s
+  overtakes : (k s : ℕ) → (k ≡ n → ⊥) → owners s ≡ n → Overtaken u more k (length us) s
   overtakes k s d e =
-      let new = pushed-new h n (length (h .updaters)) (omega arith) (omega (arith, length-push (h .updaters) (new-updater h n))) in
-      (length (h .updaters), omega arith, omega (arith, length-push (h .updaters) (new-updater h n)), record {
+      let new = pushed-new h n (length us) (omega arith) (omega (arith, longer)) in
+      (length us, omega arith, omega (arith, longer), record {
         other = λ x. d (sym x ∙ ap (λ (y : Work). y .thread) new ∙ f .seats n .named);
-        stored = ap (stores-in (w .engine .set-up) s) new ∙ runs ws base w h n f running .owns-stored s e;
+        stored = ap (stores-in u s) new ∙ run .owns-stored s e;
       })
 
-  fronts-apart : (k s : ℕ) → (k ≡ n → ⊥) → (owner-of (w .engine) s ≡ n) ⊎ (owner-of (w .engine) s ≡ n → ⊥) →
-      (front (stamped (w .engine) ts) s ≡ front (w .engine) s) ⊎ Overtaken (w .engine .set-up) (one-more h n) k (length (h .updaters)) s
+  fronts-apart : (k s : ℕ) → (k ≡ n → ⊥) → (owners s ≡ n) ⊎ (owners s ≡ n → ⊥) →
+      (front after s ≡ front (w .engine) s) ⊎ Overtaken u more k (length us) s
   fronts-apart k s d (inl e) = inr (overtakes k s d e)
   fronts-apart k s d (inr x) = inl (front-other s x)
 
   others-apart : (k : ℕ) → (k ≡ n → ⊥) →
-      Apart (w .engine .set-up) ws (h .updaters) (one-more h n) (front (w .engine)) (front (stamped (w .engine) ts)) (owner-of (w .engine)) (owner-of (w .engine)) k
+      Apart u ws us more (front (w .engine)) (front after) owners owners k
   others-apart k d = record {
     grows = grown;
     newer = λ j low high e. d (sym e ∙ ap (λ (x : Work). x .thread) (pushed-new h n j low high) ∙ f .seats n .named);
     same = λ j l e. pushed-old h n j l;
     gains = λ s e. e;
     keeps = λ s e. e;
-    fronts = λ s e. fronts-apart k s d (cases-eq (owner-of (w .engine) s) n);
+    fronts = λ s e. fronts-apart k s d (cases-eq (owners s) n);
   }
 
-  sealed-present : then w h beats (Seal n) (updater-sealed w n ts) .present n
-      ≡ with-work (watched (leads-at (w .engine .set-up) (line-of beats (Seal n) (updater-sealed w n ts)) n) (h .present n)) (new-updater h n)
+  sealed-present : next .present n
+      ≡ with-work (watched (leads-at u line n) (h .present n)) (new-updater h n)
   sealed-present =
-      present-unlost (w .engine .set-up) h (line-of beats (Seal n) (updater-sealed w n ts)) refl (ap (λ (t : Thread). loss-in (t .phase)) own)
+      present-unlost u h line refl (ap (λ (t : Thread). loss-in (t .phase)) own)
 
   sealed-seat : (k : ℕ) → (k ≡ n) ⊎ (k ≡ n → ⊥) →
-      Seat (w .engine .set-up) ws (one-more h n) base (front (stamped (w .engine) ts)) (owner-of (w .engine)) k (at ts k)
-      (then w h beats (Seal n) (updater-sealed w n ts) .present k)
+      Seat u ws more base (front after) owners k (at ts k)
+      (next .present k)
   sealed-seat k (inl e) =
-      subst (λ (j : ℕ). Seat (w .engine .set-up) ws (one-more h n) base (front (stamped (w .engine) ts)) (owner-of (w .engine)) j (at ts j)
-      (then w h beats (Seal n) (updater-sealed w n ts) .present j)) (sym e)
-      (subst (λ (t : Thread). Seat (w .engine .set-up) ws (one-more h n) base (front (stamped (w .engine) ts)) (owner-of (w .engine)) n t
-      (then w h beats (Seal n) (updater-sealed w n ts) .present n)) (sym own)
-      (subst (λ (x : Transaction). Seat (w .engine .set-up) ws (one-more h n) base (front (stamped (w .engine) ts)) (owner-of (w .engine)) n
+      subst (λ (j : ℕ). Seat u ws more base (front after) owners j (at ts j)
+      (next .present j)) (sym e)
+      (subst (λ (t : Thread). Seat u ws more base (front after) owners n t
+      (next .present n)) (sym own)
+      (subst (λ (x : Transaction). Seat u ws more base (front after) owners n
       (ticketed (w .engine) n end) x) (sym sealed-present)
-      (sealed-own (leads-at (w .engine .set-up) (line-of beats (Seal n) (updater-sealed w n ts)) n))))
+      (sealed-own (leads-at u line n))))
   sealed-seat k (inr d) =
-      seat-other (w .engine .set-up) ws base (front (stamped (w .engine) ts)) (owner-of (w .engine)) h (line-of beats (Seal n) (updater-sealed w n ts)) k
-      (at ts k) d refl (one-more h n)
-      (subst (λ (t : Thread). Seat (w .engine .set-up) ws (one-more h n) base (front (stamped (w .engine) ts)) (owner-of (w .engine)) k t (h .present k))
+      seat-other u ws base (front after) owners h line k
+      (at ts k) d refl more
+      (subst (λ (t : Thread). Seat u ws more base (front after) owners k t (h .present k))
       (sym (apart k d))
-      (seat-apart (w .engine .set-up) ws (h .updaters) (one-more h n) (front (w .engine)) (front (stamped (w .engine) ts)) (owner-of (w .engine)) (owner-of (w .engine))
+      (seat-apart u ws us more (front (w .engine)) (front after) owners owners
       k base (thread-of (w .engine) k) (h .present k) grown (λ e. others-apart k d) (f .seats k)))
 
-  sealed-spent : (k : ℕ) → k < length (one-more h n) → (k < length (h .updaters)) ⊎ (length (h .updaters) ≤ k) →
-      Spent (stamped (w .engine) ts) (sealed-history w h beats n ts) k
+  sealed-spent : (k : ℕ) → k < length more → (k < length us) ⊎ (length us ≤ k) →
+      Spent after next k
   sealed-spent k high (inl l) = go (f .spent k l)
     where
-      go : Spent (w .engine) h k → Spent (stamped (w .engine) ts) (sealed-history w h beats n ts) k
+      go : Spent (w .engine) h k → Spent after next k
       go (inl e) = inl (ap not-drained (pushed-old h n k l) ∙ e)
       go (inr x) =
-          inr (draining-other (w .engine) (stamped (w .engine) ts) h (sealed-history w h beats n ts) n k apart
-          (λ j d. number-other (w .engine .set-up) h (line-of beats (Seal n) (updater-sealed w n ts)) j d)
+          inr (draining-other (w .engine) after h next n k apart
+          (λ j d. number-other u h line j d)
           x (running-not-draining (w .engine) h n k running x))
   sealed-spent k high (inr l) = inr (record {
     thread = n;
@@ -256,36 +275,36 @@ module _ (ws : List ℕ) (base : ℕ) (w : World) (h : History) (beats : Table) 
     sealed = ap (λ (t : Thread). t .phase) own;
     numbered =
         ap (λ (x : Transaction). x .work .number) sealed-present
-        ∙ ap Some (omega (arith, length-push (h .updaters) (new-updater h n)));
+        ∙ ap Some (omega (arith, longer));
   })
 
-  sealed-loads : (k : ℕ) → k < length (one-more h n) → (k < length (h .updaters)) ⊎ (length (h .updaters) ≤ k) →
-      Loads-at ws (one-more h n) k (updater (one-more h n) k)
+  sealed-loads : (k : ℕ) → k < length more → (k < length us) ⊎ (length us ≤ k) →
+      Loads-at ws more k (updater more k)
   sealed-loads k high (inl l) =
-      subst (λ (x : Work). Loads-at ws (one-more h n) k x) (sym (pushed-old h n k l))
-      (loads-grow ws (h .updaters) (one-more h n) grown k (updater (h .updaters) k) (omega arith) (f .loads k l))
+      subst (λ (x : Work). Loads-at ws more k x) (sym (pushed-old h n k l))
+      (loads-grow ws us more grown k (updater us k) (omega arith) (f .loads k l))
   sealed-loads k high (inr l) =
-      let e : length (h .updaters) ≡ k = omega (arith, length-push (h .updaters) (new-updater h n)) in
-      subst (λ (x : Work). Loads-at ws (one-more h n) k x) (sym (pushed-new h n k l high))
-      (subst (λ (j : ℕ). Loads-at ws (one-more h n) j (new-updater h n)) e new-loads)
+      let e : length us ≡ k = omega (arith, longer) in
+      subst (λ (x : Work). Loads-at ws more k x) (sym (pushed-new h n k l high))
+      (subst (λ (j : ℕ). Loads-at ws more j (new-updater h n)) e new-loads)
 
   pub updater-keeps : Kept ws base w h beats (Seal n) (updater-sealed w n ts)
   updater-keeps = record {
     same-set-up = refl;
     fits =
-        subst (λ (vs : List Work). Fits ws base (over w (stamped (w .engine) ts))
-        (record { stored = w .words; updaters = vs; present = then w h beats (Seal n) (updater-sealed w n ts) .present; past = h .past }))
-        (ap (λ (o : Option ℕ). rewritten o (new-updater h n) (h .updaters) ++ new-updater h n ∷ []) (sym (runs ws base w h n f running .unnumbered)))
+        subst (λ (vs : List Work). Fits ws base (over w after)
+        (record { stored = w .words; updaters = vs; present = next .present; past = h .past }))
+        (ap (λ (o : Option ℕ). rewritten o (new-updater h n) us ++ new-updater h n ∷ []) (sym (run .unnumbered)))
         (record {
           stored = refl;
           sized = f .sized;
-          count = omega (arith, length-push (h .updaters) (new-updater h n), f .count);
-          stripes = λ s. sealed-stripe s (cases-eq (owner-of (w .engine) s) n);
-          words = λ a l. sealed-words a l (cases-eq (owner-of (w .engine) (stripe-of (w .engine .set-up) a)) n);
+          count = omega (arith, longer, f .count);
+          stripes = λ s. sealed-stripe s (cases-eq (owners s) n);
+          words = λ a l. sealed-words a l (cases-eq (owners (stripe-of u a)) n);
           seats = λ k. sealed-seat k (cases-eq k n);
-          spent = λ k l. sealed-spent k l (cases-lt k (length (h .updaters)));
-          loads = λ k l. sealed-loads k l (cases-lt k (length (h .updaters)));
-          past-points = points-grow ws (h .updaters) (one-more h n) grown (h .past) (f .past-points);
-          past-spared = all-spared-grow ws (h .updaters) (one-more h n) grown (w .engine .set-up) (h .past) (f .past-spared);
+          spent = λ k l. sealed-spent k l (cases-lt k (length us));
+          loads = λ k l. sealed-loads k l (cases-lt k (length us));
+          past-points = points-grow ws us more grown (h .past) (f .past-points);
+          past-spared = all-spared-grow ws us more grown u (h .past) (f .past-spared);
         });
   }
