@@ -102,12 +102,14 @@ module _ (ws : List ℕ) (base : ℕ) (w : World) (h : History) (beats : Table) 
   abbrev next : History
   next = record { stored = w .words; updaters = more; present = then w h beats (Seal n) (updater-sealed w n ts) .present; past = h .past }
 
+  -- what is known of the caller and of the number of updaters
   run : Running-fits u ws us base (front (w .engine)) owners n (thread-of (w .engine) n) mine (h .present n .fall)
   run = runs ws base w h n f running
 
   longer : length more ≡ length us + 1
   longer = length-push us (new-updater h n)
 
+  -- what stripes show: the caller's own, and the others
   front-own : (s : ℕ) → owners s ≡ n → front after s ≡ own-front (w .engine) n s
   front-own s e = λ i. record {
     version = stripe-at (w .engine) s .version;
@@ -131,6 +133,7 @@ module _ (ws : List ℕ) (base : ℕ) (w : World) (h : History) (beats : Table) 
       ap (stores-in u s) (pushed-old h n k l) ∙ f .stripes s .untouched k low l
   untouched-other s d k low high (inr l) = ap (stores-in u s) (pushed-new h n k l high) ∙ unowned-unstored u owners n s (mine .calls) owns d
 
+  -- every stripe fits
   sealed-stripe : (s : ℕ) → (owners s ≡ n) ⊎ (owners s ≡ n → ⊥) →
       Stripe-fits u more base (w .engine .clock + 1) s (front after s)
   sealed-stripe s (inl e) =
@@ -153,6 +156,7 @@ module _ (ws : List ℕ) (base : ℕ) (w : World) (h : History) (beats : Table) 
   held-by-none s e =
       ap (λ (k : ℕ). hold-of (thread-of (w .engine) k)) e ∙ hold-none (thread-of (w .engine) n) Running running refl
 
+  -- every word fits
   sealed-words : (a : ℕ) → a < length (w .words) →
       (owners (stripe-of u a) ≡ n) ⊎ (owners (stripe-of u a) ≡ n → ⊥) →
       Word-fits u ws more (w .words) (front after) a
@@ -170,6 +174,7 @@ module _ (ws : List ℕ) (base : ℕ) (w : World) (h : History) (beats : Table) 
       ∙ f .words a l
       ∙ ap (λ (x : Front). getD (put-in (w .words) (left-of (x .hold))) a 0) (sym (front-other (stripe-of u a) d))
 
+  -- the updaters only grow
   grown : Grows ws us more
   grown = push-grows ws us (new-updater h n)
 
@@ -218,13 +223,13 @@ module _ (ws : List ℕ) (base : ℕ) (w : World) (h : History) (beats : Table) 
         stored = ap (stores-in u s) new ∙ run .owns-stored s e;
       })
 
+  -- so a stripe shows other threads what it showed, or it is overtaken for them
   fronts-apart : (k s : ℕ) → (k ≡ n → ⊥) → (owners s ≡ n) ⊎ (owners s ≡ n → ⊥) →
       (front after s ≡ front (w .engine) s) ⊎ Overtaken u more k (length us) s
   fronts-apart k s d (inl e) = inr (overtakes k s d e)
   fronts-apart k s d (inr x) = inl (front-other s x)
 
-  others-apart : (k : ℕ) → (k ≡ n → ⊥) →
-      Apart u ws us more (front (w .engine)) (front after) owners owners k
+  others-apart : (k : ℕ) → (k ≡ n → ⊥) → Apart u ws us more (front (w .engine)) (front after) owners owners k
   others-apart k d = record {
     grows = grown;
     newer = λ j low high e. d (sym e ∙ ap (λ (x : Work). x .thread) (pushed-new h n j low high) ∙ f .seats n .named);
@@ -234,30 +239,24 @@ module _ (ws : List ℕ) (base : ℕ) (w : World) (h : History) (beats : Table) 
     fronts = λ s e. fronts-apart k s d (cases-eq (owners s) n);
   }
 
-  sealed-present : next .present n
-      ≡ with-work (watched (leads-at u line n) (h .present n)) (new-updater h n)
-  sealed-present =
-      present-unlost u h line refl (ap (λ (t : Thread). loss-in (t .phase)) own)
+  -- the caller's transaction is the new updater
+  sealed-present : next .present n ≡ with-work (watched (leads-at u line n) (h .present n)) (new-updater h n)
+  sealed-present = present-unlost u h line refl (ap (λ (t : Thread). loss-in (t .phase)) own)
 
-  sealed-seat : (k : ℕ) → (k ≡ n) ⊎ (k ≡ n → ⊥) →
-      Seat u ws more base (front after) owners k (at ts k)
-      (next .present k)
+  -- every thread's seat
+  sealed-seat : (k : ℕ) → (k ≡ n) ⊎ (k ≡ n → ⊥) → Seat u ws more base (front after) owners k (at ts k) (next .present k)
   sealed-seat k (inl e) =
-      subst (λ (j : ℕ). Seat u ws more base (front after) owners j (at ts j)
-      (next .present j)) (sym e)
-      (subst (λ (t : Thread). Seat u ws more base (front after) owners n t
-      (next .present n)) (sym own)
-      (subst (λ (x : Transaction). Seat u ws more base (front after) owners n
-      (ticketed (w .engine) n end) x) (sym sealed-present)
+      subst (λ (j : ℕ). Seat u ws more base (front after) owners j (at ts j) (next .present j)) (sym e)
+      (subst (λ (t : Thread). Seat u ws more base (front after) owners n t (next .present n)) (sym own)
+      (subst (λ (x : Transaction). Seat u ws more base (front after) owners n (ticketed (w .engine) n end) x) (sym sealed-present)
       (sealed-own (leads-at u line n))))
   sealed-seat k (inr d) =
-      seat-other u ws base (front after) owners h line k
-      (at ts k) d refl more
-      (subst (λ (t : Thread). Seat u ws more base (front after) owners k t (h .present k))
-      (sym (apart k d))
-      (seat-apart u ws us more (front (w .engine)) (front after) owners owners
-      k base (thread-of (w .engine) k) (h .present k) grown (λ e. others-apart k d) (f .seats k)))
+      seat-other u ws base (front after) owners h line k (at ts k) d refl more
+      (subst (λ (t : Thread). Seat u ws more base (front after) owners k t (h .present k)) (sym (apart k d))
+      (seat-apart u ws us more (front (w .engine)) (front after) owners owners k base (thread-of (w .engine) k) (h .present k) grown
+      (λ e. others-apart k d) (f .seats k)))
 
+  -- what was drained or is being drained, with the new updater
   sealed-spent : (k : ℕ) → k < length more → (k < length us) ⊎ (length us ≤ k) →
       Spent after next k
   sealed-spent k high (inl l) = go (f .spent k l)
@@ -278,6 +277,7 @@ module _ (ws : List ℕ) (base : ℕ) (w : World) (h : History) (beats : Table) 
         ∙ ap Some (omega (arith, longer));
   })
 
+  -- every updater loads in the serial run what it loaded
   sealed-loads : (k : ℕ) → k < length more → (k < length us) ⊎ (length us ≤ k) →
       Loads-at ws more k (updater more k)
   sealed-loads k high (inl l) =
