@@ -98,12 +98,13 @@ Owns-log u owner n es = (a : ℕ) → has-key (λ e. e .address) a es ≡ true �
 abbrev pub Owns-stored : SetUp → (ℕ → ℕ) → ℕ → Work → Type 0
 Owns-stored u owner n w = (s : ℕ) → owner s ≡ n → stores-in u s w ≡ true
 
--- a running transaction: its loads agree at its snapshot end
+-- a running transaction: it has drained nothing, and its loads agree at its snapshot end
 pub record Running-fits (u : SetUp) (ws : List ℕ) (us : List Work) (base : ℕ) (fs : ℕ → Front) (owner : ℕ → ℕ)
     (n : ℕ) (t : Thread) (w : Work) (f : Option Fall) : Type 0 where
   pub unnumbered : w .number ≡ None
   pub standing : f ≡ None
   pub log : t .writes ≡ write-log (w .calls)
+  pub undrained : drain-count (w .calls) ≡ 0
   pub owns-log : Owns-log u owner n (t .writes)
   pub owns-stored : Owns-stored u owner n w
   pub since-begin : w .begun ≤ base + t .snapshot

@@ -54,6 +54,7 @@ module _ (u : SetUp) (ws : List ℕ) (us vs : List Work) (fs gs : ℕ → Front)
     unnumbered = r .unnumbered;
     standing = r .standing;
     log = r .log;
+    undrained = r .undrained;
     owns-log = λ x e. a .keeps _ (r .owns-log x e);
     owns-stored = λ s e. r .owns-stored s (a .gains s e);
     since-begin = r .since-begin;

@@ -1,0 +1,99 @@
+-- seal keeps the invariant.
+use Prim.Native.Nat.{ℕ, _+_}
+use lib.Dec.{eqb, leb}
+use lib.ListN.{length}
+use mathlib.Core.Bool.{Bool, true, false}
+use mathlib.Core.List.{List}
+use mathlib.Core.Path.{_≡_, refl, ap, subst, _∙_}
+use native.Mathlib.Omega.{arith}
+use Rattle.common.specs.declared.loss.Loss.{Loss}
+use Rattle.common.specs.declared.loss.Loss.the-variants.{Invalid, ClockSpent}
+use Rattle.common.specs.declared.refusal.Refusal.{Refusal}
+use Rattle.history.proofs.Callers.{runs}
+use Rattle.history.proofs.Invariant.{Fits}
+use Rattle.history.proofs.Maps.{at-put-same, at-put-other}
+use Rattle.history.proofs.Phases.{admitted-parts, running-phase}
+use Rattle.history.proofs.Plan.{Kept, Seal-keeps, Lost-keeps, Refresh-agrees, Invalid-excuses}
+use Rattle.history.proofs.Quiet.{quiet-state}
+use Rattle.history.proofs.ReaderSeal.{reader-keeps}
+use Rattle.history.proofs.Refusals.{refused-keeps}
+use Rattle.history.proofs.UpdaterSeal.{ticketed, updater-keeps}
+use Rattle.history.specs.Law.{Excused, Loads-at}
+use Rattle.history.specs.Record.{History}
+use Rattle.rules.specs.Admission.{admitted, is-thread}
+use Rattle.rules.specs.Conflicts.{first-invalid, rechecked}
+use Rattle.rules.specs.Maps.{at, put}
+use Rattle.rules.specs.Outcomes.{Table, lost}
+use Rattle.rules.specs.Seal.{seal-admitted, seal-updates, seal-unspent, seal-checked, seal-check}
+use Rattle.rules.specs.States.{World, Thread, thread-of, with-phase, with-snapshot}
+use Rattle.rules.specs.declared.call.Call.the-variants.{Seal}
+use Rattle.rules.specs.declared.kind.Kind.the-variants.{Seal as Sealing}
+use Rattle.rules.specs.declared.phase.Phase.the-variants.{Running, Sealed, Lost}
+use Rattle.std.proofs.shelf.Tests.{eqb-true}
+use Rattle.std.specs.declared.option.Option.{Option}
+use Rattle.std.specs.declared.option.Option.the-variants.{Some, None}
+use Rattle.std.specs.declared.result.Result.{Result}
+use Rattle.std.specs.declared.result.Result.the-variants.{Ok, Err}
+
+module _ (ws : List ℕ) (base : ℕ) (w : World) (h : History) (beats : Table) (n : ℕ) (f : Fits ws base w h)
+    (inside : is-thread (w .engine .set-up) n ≡ true) (running : thread-of (w .engine) n .phase ≡ Running) where
+  -- nothing was sealed since the snapshot end: its moment is the present one
+  unchecked-keeps : w .engine .clock ≡ thread-of (w .engine) n .snapshot →
+      Kept ws base w h beats (Seal n) (seal-checked w n (seal-check (w .engine) n true))
+  unchecked-keeps e =
+      let t = ticketed (w .engine) n (thread-of (w .engine) n .snapshot) in
+      let r = runs ws base w h n f running in
+      let now : base + thread-of (w .engine) n .snapshot ≡ length (h .updaters) = omega (arith, f .count, e) in
+      updater-keeps ws base w h beats n (thread-of (w .engine) n .snapshot) (put (w .engine .threads) n t) f inside running
+      (subst (λ (m : ℕ). Loads-at ws (h .updaters) m (h .present n .work)) now (r .loads))
+      (at-put-same (w .engine .threads) n t) (λ k d. at-put-other (w .engine .threads) n k t d)
+
+  -- the check has moved the snapshot end to the present moment
+  checked-keeps : Loads-at ws (h .updaters) (length (h .updaters)) (h .present n .work) →
+      Kept ws base w h beats (Seal n) (seal-checked w n (rechecked (w .engine) n None))
+  checked-keeps agrees =
+      let t = with-snapshot (thread-of (w .engine) n) (w .engine .clock) in
+      let ts = put (w .engine .threads) n t in
+      let t′ = with-phase (at ts n) (Sealed (w .engine .clock + 1) 0) in
+      updater-keeps ws base w h beats n (w .engine .clock) (put ts n t′) f inside running agrees
+      (at-put-same ts n t′ ∙ ap (λ (x : Thread). with-phase x (Sealed (w .engine .clock + 1) 0)) (at-put-same (w .engine .threads) n t))
+      (λ k d. at-put-other ts n k t′ d ∙ at-put-other (w .engine .threads) n k t d)
+
+  module _ (lost-keeps : Lost-keeps) (refresh-agrees : Refresh-agrees) (invalid-excuses : Invalid-excuses) where
+    -- a seal that loses the transaction
+    loses-keeps : (l : Loss) (m : Bool) → Excused (w .engine .set-up) (h .updaters) (h .present n .work) (length (h .updaters)) l →
+        Kept ws base w h beats (Seal n) (lost w l (quiet-state (w .engine) m (w .engine .stripes) (put (w .engine .threads) n (with-phase (thread-of (w .engine) n) (Lost l)))))
+    loses-keeps l m x =
+        let t = with-phase (thread-of (w .engine) n) (Lost l) in
+        lost-keeps ws base w h beats (Seal n) l m (put (w .engine .threads) n t) f running
+        (ap (λ (y : Thread). y .phase) (at-put-same (w .engine .threads) n t))
+        (λ k d. at-put-other (w .engine .threads) n k t d) (λ leader. x)
+
+    rechecked-keeps : (o : Option ℕ) → first-invalid (w .engine) n (thread-of (w .engine) n .reads) ≡ o →
+        Kept ws base w h beats (Seal n) (seal-checked w n (rechecked (w .engine) n o))
+    rechecked-keeps None e = checked-keeps (refresh-agrees ws base w h n f running e)
+    rechecked-keeps (Some s) e = loses-keeps (Invalid s) (w .engine .mark) (invalid-excuses ws base w h n s f running e)
+
+    check-keeps : (b : Bool) → eqb (w .engine .clock) (thread-of (w .engine) n .snapshot) ≡ b →
+        Kept ws base w h beats (Seal n) (seal-checked w n (seal-check (w .engine) n b))
+    check-keeps true e = unchecked-keeps (eqb-true (w .engine .clock) (thread-of (w .engine) n .snapshot) e)
+    check-keeps false e = rechecked-keeps (first-invalid (w .engine) n (thread-of (w .engine) n .reads)) refl
+
+    unspent-keeps : (b : Bool) → Kept ws base w h beats (Seal n) (seal-unspent w n b)
+    unspent-keeps true = loses-keeps ClockSpent true tt
+    unspent-keeps false = check-keeps (eqb (w .engine .clock) (thread-of (w .engine) n .snapshot)) refl
+
+    updates-keeps : (b : Bool) → eqb (length (thread-of (w .engine) n .writes)) 0 ≡ b →
+        Kept ws base w h beats (Seal n) (seal-updates w n b)
+    updates-keeps true e = reader-keeps ws base w h beats n f running (eqb-true (length (thread-of (w .engine) n .writes)) 0 e)
+    updates-keeps false e = unspent-keeps (leb (w .engine .set-up .limit) (w .engine .clock))
+
+pub seal-keeps : Lost-keeps → Refresh-agrees → Invalid-excuses → Seal-keeps
+seal-keeps lost-keeps refresh-agrees invalid-excuses ws base w h beats n f = go (admitted (w .engine) Sealing n) refl
+  where
+    go : (r : Result (Unit {0}) Refusal) → admitted (w .engine) Sealing n ≡ r → Kept ws base w h beats (Seal n) (seal-admitted w n r)
+    go (Err r) e = refused-keeps ws base w h beats (Seal n) r f
+    go (Ok x) e =
+        let a = admitted-parts (w .engine) Sealing n x e in
+        updates-keeps ws base w h beats n f (a .inside) (running-phase (thread-of (w .engine) n .phase) (a .fits))
+        lost-keeps refresh-agrees invalid-excuses (eqb (length (thread-of (w .engine) n .writes)) 0) refl
