@@ -55,6 +55,7 @@ module _ (ws : List ℕ) (base : ℕ) (w : World) (h : History) (beats : Table) 
       unnumbered = refl;
       standing = refl;
       log = refl;
+      undrained = refl;
       owns-log = λ a e. absurd (both-ways false refl e);
       owns-stored = λ s e. absurd (owns-nothing s e);
       since-begin = omega (arith, f .count);

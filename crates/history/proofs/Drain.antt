@@ -110,7 +110,7 @@ module _ (ws : List ℕ) (base : ℕ) (w : World) (h : History) (beats : Table) 
     on-words : (a : ℕ) → (owners (stripe-of u a) ≡ n → ⊥) → getD (w .words) a 0 ≡ getD now-on a 0
     on-words a d =
         let none : has-key (λ (y : WriteEntry). y .address) a (e ∷ drop (drained + 1) log) ≡ false =
-            ap (has-key (λ y. y .address) a) (sym next) ∙ not-left a d in
+        ap (has-key (λ y. y .address) a) (sym next) ∙ not-left a d in
         let apart = or-parts (eqb (e .address) a) (has-key (λ y. y .address) a (drop (drained + 1) log)) none .0 in
         sym (getD-set-other (w .words) (e .address) a (e .word) 0 (λ x. eqb-false (e .address) a apart (sym x)))
 

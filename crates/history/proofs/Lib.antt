@@ -24,6 +24,7 @@ pub mod Nexts
 pub mod Nobody
 pub mod Phases
 pub mod Plan
+pub mod Prefixes
 pub mod Quiet
 pub mod ReadLogs
 pub mod ReaderSeal
@@ -39,4 +40,5 @@ pub mod Store
 pub mod Turns
 pub mod Undrained
 pub mod UpdaterSeal
+pub mod Whole
 pub mod Wins

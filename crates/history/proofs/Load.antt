@@ -78,6 +78,7 @@ answered-fits u ws us base fs owner n a v end t w f rs r x = record {
   unnumbered = r .unnumbered;
   standing = r .standing;
   log = r .log;
+  undrained = r .undrained;
   owns-log = r .owns-log;
   owns-stored = r .owns-stored;
   since-begin = omega (arith, r .since-begin, x .later);
@@ -247,7 +248,7 @@ module _ (lost-keeps : Lost-keeps) (leader-beats : Leader-beats) (log-finds-kept
           Kept ws base w h beats (Load n a) (load-fresh beats w n a loaded-stripe known (rechecked (w .engine) n None))
       checked-keeps newer valid =
           let by-clock : stripe-at (w .engine) loaded-stripe .version ≤ w .engine .clock =
-              omega (arith, f .stripes loaded-stripe .rises, f .stripes loaded-stripe .by-clock) in
+          omega (arith, f .stripes loaded-stripe .rises, f .stripes loaded-stripe .by-clock) in
           fresh-keeps leader-beats ws base w h beats n a f run log-finds-kept loaded-stripe (w .engine .clock) refl inside logless free
           (omega (arith, newer, by-clock)) by-clock (omega (arith, f .count))
           (subst (λ (m : ℕ). Loads-at ws (h .updaters) m (h .present n .work)) (f .count) (refresh-agrees ws base w h n f run valid))

@@ -164,9 +164,11 @@ entry-in-stripe u s (e ∷ es) h =
     go : (eqb (stripe-of u (e .address)) s ≡ true) ⊎ (has-key (λ x. stripe-of u (x .address)) s es ≡ true) →
         (has-key (λ x. stripe-of u (x .address)) s es ≡ true → (a : ℕ) × (has-key address-of a es ≡ true) × (stripe-of u a ≡ s)) →
         (a : ℕ) × (has-key address-of a (e ∷ es) ≡ true) × (stripe-of u a ≡ s)
-    go (inl p) later =
-        (e .address, or-left (eqb (e .address) (e .address)) (has-key address-of (e .address) es) (eq-eqb (e .address) (e .address) refl),
-        eqb-true (stripe-of u (e .address)) s p)
+    go (inl p) later = (
+      e .address,
+      or-left (eqb (e .address) (e .address)) (has-key address-of (e .address) es) (eq-eqb (e .address) (e .address) refl),
+      eqb-true (stripe-of u (e .address)) s p,
+    )
     go (inr p) later =
         let r = later p in
         (r .0, or-right (eqb (e .address) (r .0)) (has-key address-of (r .0) es) (r .1), r .2)

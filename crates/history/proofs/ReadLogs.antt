@@ -160,8 +160,8 @@ refresh-agrees ws base w h n f run none =
 pub invalid-excuses : Invalid-excuses
 invalid-excuses ws base w h n s f run some =
     let x = invalid-entry (w .engine) n s
-        (λ e. Mark-fits (w .engine .set-up) (h .updaters) n (h .present n .work .begun) (thread-of (w .engine) n .snapshot) (front (w .engine) (e .stripe)) e)
-        (thread-of (w .engine) n .reads) (running-fits ws base w h n f run .marks) some in
+    (λ e. Mark-fits (w .engine .set-up) (h .updaters) n (h .present n .work .begun) (thread-of (w .engine) n .snapshot) (front (w .engine) (e .stripe)) e)
+    (thread-of (w .engine) n .reads) (running-fits ws base w h n f run .marks) some in
     subst (λ (t : ℕ). Overtaken (w .engine .set-up) (h .updaters) t (h .present n .work .begun) s) (sym (f .seats n .named))
     (subst (λ (t : ℕ). Overtaken (w .engine .set-up) (h .updaters) n (h .present n .work .begun) t) (x .1)
     (invalid-overtaken ws base w h n f run (x .0) (x .2) (x .3)))

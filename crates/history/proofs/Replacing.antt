@@ -86,9 +86,10 @@ module _ {E : Type 0} (key : E → ℕ) where
   pub once-pushed : (new : E) (es : List E) → has-key key (key new) es ≡ false → Once key es → Once key (es ++ new ∷ [])
   once-pushed new [] h o = (refl, tt)
   once-pushed new (e ∷ es) h o =
-      let d = or-parts (eqb (key e) (key new)) (has-key key (key new) es) h in
-      (misses-pushed (key e) new es (o .0) (ne-eqb (key new) (key e) (λ x. eqb-false (key e) (key new) (d .0) (sym x))),
-      once-pushed new es (d .1) (o .1))
+      let d = or-parts (eqb (key e) (key new)) (has-key key (key new) es) h in (
+        misses-pushed (key e) new es (o .0) (ne-eqb (key new) (key e) (λ x. eqb-false (key e) (key new) (d .0) (sym x))),
+        once-pushed new es (d .1) (o .1),
+      )
 
   -- a key that the log misses, its end misses too
   pub misses-dropped : (k d : ℕ) (es : List E) → has-key key k es ≡ false → has-key key k (drop d es) ≡ false

@@ -62,6 +62,7 @@ logged-fits u ws us base fs owner owner′ n a v t w f es r x = record {
   unnumbered = r .unnumbered;
   standing = r .standing;
   log = x .log;
+  undrained = r .undrained;
   owns-log = λ b has. owns b (x .keys b has);
   owns-stored = λ s o. stored s (x .gains s o);
   since-begin = r .since-begin;

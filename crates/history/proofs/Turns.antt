@@ -35,10 +35,11 @@ module _ {P : Type 0} (table : P → Table) (moved : P → Event → P) where
         p′ ≡ after-events moved p (perform (table p) w (x .call) .told) →
         Underway first whole now i w p → Underway first whole (set now i y) (i + 1) w′ p′
     underway-more h long at answered left told u = record {
-        shown = u .shown ∙ ap (λ r. take i now ++ map turn-of (r .lines)) goes-on ∙ regrouped;
-        rest = drop-set-lt (i + 1) now i y (omega arith) ∙ behind;
-        world = u .world ∙ ap (λ r. r .world) goes-on;
-        policy = u .policy ∙ ap (λ r. r .policy) goes-on }
+      shown = u .shown ∙ ap (λ r. take i now ++ map turn-of (r .lines)) goes-on ∙ regrouped;
+      rest = drop-set-lt (i + 1) now i y (omega arith) ∙ behind;
+      world = u .world ∙ ap (λ r. r .world) goes-on;
+      policy = u .policy ∙ ap (λ r. r .policy) goes-on;
+    }
       where
         next : Line
         next = line-of (table p) (x .call) (perform (table p) w (x .call))
@@ -75,7 +76,8 @@ module _ {P : Type 0} (table : P → Table) (moved : P → Event → P) where
   underway-all first whole now i w p h long u =
       let none : drop i first ≡ [] = drop-all i first h in
       let over : run-from table moved w p (calls-of (drop i first)) ≡ record { lines = []; world = w; policy = p } =
-          ap (λ ts. run-from table moved w p (calls-of ts)) none in
-      (sym (u .shown ∙ ap (λ r. take i now ++ map turn-of (r .lines)) over ∙ append-nil (take i now) ∙ take-all i now (omega arith)),
-      sym (u .world ∙ ap (λ r. r .world) over),
-      sym (u .policy ∙ ap (λ r. r .policy) over))
+      ap (λ ts. run-from table moved w p (calls-of ts)) none in (
+        sym (u .shown ∙ ap (λ r. take i now ++ map turn-of (r .lines)) over ∙ append-nil (take i now) ∙ take-all i now (omega arith)),
+        sym (u .world ∙ ap (λ r. r .world) over),
+        sym (u .policy ∙ ap (λ r. r .policy) over),
+      )

@@ -217,11 +217,15 @@ module _ (ws : List ℕ) (base : ℕ) (w : World) (h : History) (beats : Table) 
   -- a read entry of another thread at a stripe of the new updater is overtaken
   overtakes : (k s : ℕ) → (k ≡ n → ⊥) → owners s ≡ n → Overtaken u more k (length us) s
   overtakes k s d e =
-      let new = pushed-new h n (length us) (omega arith) (omega (arith, longer)) in
-      (length us, omega arith, omega (arith, longer), record {
-        other = λ x. d (sym x ∙ ap (λ (y : Work). y .thread) new ∙ f .seats n .named);
-        stored = ap (stores-in u s) new ∙ run .owns-stored s e;
-      })
+      let new = pushed-new h n (length us) (omega arith) (omega (arith, longer)) in (
+        length us,
+        omega arith,
+        omega (arith, longer),
+        record {
+          other = λ x. d (sym x ∙ ap (λ (y : Work). y .thread) new ∙ f .seats n .named);
+          stored = ap (stores-in u s) new ∙ run .owns-stored s e;
+        },
+      )
 
   -- so a stripe shows other threads what it showed, or it is overtaken for them
   fronts-apart : (k s : ℕ) → (k ≡ n → ⊥) → (owners s ≡ n) ⊎ (owners s ≡ n → ⊥) →

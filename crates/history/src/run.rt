@@ -13,7 +13,12 @@ use stores::word_store::WordStore;
 
 // Makes these calls, one after another, on a new memory over the store; writes each answer beside its call.
 // Whatever the calls are, what the run shows after each of them keeps the law.
-pub fn run<S: WordStore, P: Policy>(set_up: SetUp, store: S, policy: P, turns: &mut [Turn]) -> Memory<S, P>
+pub fn run<S: WordStore, P: Policy>(
+    set_up: SetUp,
+    store: S,
+    policy: P,
+    turns: &mut [Turn],
+) -> Memory<S, P>
     ensures answers { λ _. ⌜ now (turns .exit) ≡ map turn-of (run-of table moved «set_up» (words store) policy (calls-of (now (turns .entry))) .lines) ⌝ }
     ensures left { λ r. ⌜ world words r ≡ run-of table moved «set_up» (words store) policy (calls-of (now (turns .entry))) .world ⌝ }
     ensures told { λ r. ⌜ r .policy ≡ run-of table moved «set_up» (words store) policy (calls-of (now (turns .entry))) .policy ⌝ }

@@ -1,9 +1,11 @@
 use lib.ListN.{getD}
-use mathlib.Core.Path.{refl, sym, ap, _∙_}
+use mathlib.Core.List.{map}
+use mathlib.Core.Path.{_≡_, refl, ap, _∙_}
 use native.Mathlib.Omega.{arith}
+use Rattle.history.proofs.Prefixes.{beginnings-are-lawful}
 use Rattle.history.proofs.Turns.{underway-more, underway-all}
 use Rattle.history.proofs.run.run.Needs as need
-use Rattle.history.specs.Turns.{run-from, calls-of}
+use Rattle.history.specs.Turns.{run-from, run-of, calls-of, turn-of}
 use Rattle.history.specs.declared.turn.Turn.{Turn}
 use Rattle.memory.specs.Memories.{world}
 use Rattle.rules.specs.Calls.{perform}
@@ -21,16 +23,38 @@ pub loop-turn-again : need.loop-turn-again
 unfolding perform
 loop-turn-again g c =
     let turns = c .loop-turn .turns in
-    let i = c .loop-turn .turn-index in
-    (underway-more (g .P·Policy .table) (g .P·Policy .moved) (c .args .turns .now)
-    (run-from (g .P·Policy .table) (g .P·Policy .moved) (world (g .S·WordStore .words) (c .new-memory .result)) (c .new-memory .result .policy) (calls-of (c .args .turns .now)))
-    turns i (world (g .S·WordStore .words) (c .loop-turn .memory)) (world (g .S·WordStore .words) (c .perform .last .self))
-    (c .loop-turn .memory .policy) (c .perform .last .self .policy) blank (getD turns i blank)
-    (record { call = getD turns i blank .call; answer = Some (c .perform .result) })
-    (omega arith) (c .loop-turn .kept .turns) refl
-    (λ k. record { call = getD turns i blank .call; answer = Some (c .perform .ensures .answered k) })
-    (c .perform .ensures .left) (c .perform .ensures .told) (c .loop-turn .inv .0),
-    c .perform .ensures .lender ∙ c .loop-turn .inv .1)
+    let i = c .loop-turn .turn-index in (
+      underway-more (g .P·Policy .table) (g .P·Policy .moved) (c .args .turns .now)
+          (run-from (g .P·Policy .table) (g .P·Policy .moved) (world (g .S·WordStore .words) (c .new-memory .result)) (c .new-memory .result .policy) (calls-of (c .args .turns .now)))
+          turns i (world (g .S·WordStore .words) (c .loop-turn .memory)) (world (g .S·WordStore .words) (c .perform .last .self))
+          (c .loop-turn .memory .policy) (c .perform .last .self .policy) blank (getD turns i blank)
+          (record { call = getD turns i blank .call; answer = Some (c .perform .result) })
+          (omega arith) (c .loop-turn .kept .turns) refl
+          (λ k. record { call = getD turns i blank .call; answer = Some (c .perform .ensures .answered k) })
+          (c .perform .ensures .left) (c .perform .ensures .told) (c .loop-turn .inv .0),
+      c .perform .ensures .lender ∙ c .loop-turn .inv .1,
+    )
 
 pub returns : need.returns
-returns g c = ?
+returns g c =
+    let table = g .P·Policy .table in
+    let moved = g .P·Policy .moved in
+    let words = g .S·WordStore .words in
+    let calls = calls-of (c .args .turns .now) in
+    let memory = c .new-memory .result in
+    let start = world words memory in
+    let due = run-of table moved (c .args .set-up) (words (c .args .store)) (c .args .policy) calls in
+    let same : run-from table moved start (memory .policy) calls ≡ due =
+    ap (λ w. run-from table moved w (memory .policy) calls) (c .new-memory .ensures .all-new) ∙
+    ap (λ p. run-of table moved (c .args .set-up) (words (c .args .store)) p calls) (c .new-memory .ensures .policy) in
+    let done =
+    underway-all table moved (c .args .turns .now) (run-from table moved start (memory .policy) calls)
+    (c .loop-turn .turns) (c .loop-turn .turn-index) (world words (c .loop-turn .memory)) (c .loop-turn .memory .policy)
+    (c .loop-turn-test .left) (c .loop-turn .kept .turns) (c .loop-turn .inv .0) in
+    record {
+      answers = done .0 ∙ ap (λ r. map turn-of (r .lines)) same;
+      left = done .1 ∙ ap (λ r. r .world) same;
+      told = done .2 ∙ ap (λ r. r .policy) same;
+      lender = c .loop-turn .inv .1 ∙ ap (g .S·WordStore .home) (c .new-memory .ensures .store);
+      law = beginnings-are-lawful table moved (c .args .set-up) (words (c .args .store)) (c .args .policy) calls;
+    }
