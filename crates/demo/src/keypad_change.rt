@@ -36,7 +36,7 @@ pub fn show(rt: &LibcRuntime) -> io::Result<()> {
     )?;
     let set_up = three_tasks()?;
     let mut cells = [0; WORDS];
-    let mut drive = Drive::new(rt, set_up, PlainStore::new(&mut cells), Suicide::new());
+    let mut drive = Drive::new(rt, set_up, PlainStore::new(&mut cells), Suicide);
     let shown = all_old_or_all_new(&mut drive);
     drive.end();
     shown?;

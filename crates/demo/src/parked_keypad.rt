@@ -34,7 +34,7 @@ pub fn show(rt: &LibcRuntime) -> io::Result<()> {
     let set_up = three_tasks()?;
     let mut registers = [0; REGISTERS];
     let store = RegisterStore::new(&mut registers);
-    let mut drive = Drive::new(rt, set_up, store, Aggressive::new());
+    let mut drive = Drive::new(rt, set_up, store, Aggressive);
     let shown = taken_at_once(&mut drive);
     drive.end();
     shown?;

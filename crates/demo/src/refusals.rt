@@ -29,7 +29,7 @@ pub fn show(rt: &LibcRuntime) -> io::Result<()> {
     set_ups(rt)?;
     let set_up = three_tasks()?;
     let mut cells = [0; WORDS];
-    let mut drive = Drive::new(rt, set_up, PlainStore::new(&mut cells), Suicide::new());
+    let mut drive = Drive::new(rt, set_up, PlainStore::new(&mut cells), Suicide);
     let shown = calls(&mut drive);
     drive.end();
     shown?;

@@ -27,7 +27,7 @@ pub fn run<S: WordStore, P: Policy>(
 {
     let mut memory = Memory::new(set_up, store, policy);
     for turn in turns.iter_mut() {
-        turn.answer = Some(memory.perform(turn.call));
+        turn.make(&mut memory);
     }
     memory
 }

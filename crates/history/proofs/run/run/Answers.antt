@@ -10,7 +10,7 @@ use Rattle.history.specs.declared.turn.Turn.{Turn}
 use Rattle.memory.specs.Memories.{world}
 use Rattle.rules.specs.Calls.{perform}
 use Rattle.rules.specs.declared.call.Call.the-variants.{Begin}
-use Rattle.std.specs.declared.option.Option.the-variants.{Some, None}
+use Rattle.std.specs.declared.option.Option.the-variants.{None}
 
 pub loop-turn-holds : need.loop-turn-holds
 loop-turn-holds g c = (record { shown = refl; rest = refl; world = refl; policy = refl }, refl)
@@ -26,8 +26,8 @@ loop-turn-again g c =
     let i = c .loop-turn .turn-index in (
       underway-more (g .P·Policy .table) (g .P·Policy .moved) (c .args .turns .now)
           (run-from (g .P·Policy .table) (g .P·Policy .moved) (world (g .S·WordStore .words) (c .new-memory .result)) (c .new-memory .result .policy) (calls-of (c .args .turns .now)))
-          turns i (world (g .S·WordStore .words) (c .loop-turn .memory)) (world (g .S·WordStore .words) (c .perform .last .self))
-          (c .loop-turn .memory .policy) (c .perform .last .self .policy) blank (getD turns i blank)
+          turns i (world (g .S·WordStore .words) (c .loop-turn .memory)) (world (g .S·WordStore .words) (c .make .last .memory))
+          (c .loop-turn .memory .policy) (c .make .last .memory .policy) blank (getD turns i blank)
           (record { call = getD turns i blank .call; answer = Some (c .perform .result) })
           (omega arith) (c .loop-turn .kept .turns) refl
           (λ k. record { call = getD turns i blank .call; answer = Some (c .perform .ensures .answered k) })
