@@ -28,11 +28,10 @@ loop-turn-again g c =
           (run-from (g .P·Policy .table) (g .P·Policy .moved) (world (g .S·WordStore .words) (c .new-memory .result)) (c .new-memory .result .policy) (calls-of (c .args .turns .now)))
           turns i (world (g .S·WordStore .words) (c .loop-turn .memory)) (world (g .S·WordStore .words) (c .make .last .memory))
           (c .loop-turn .memory .policy) (c .make .last .memory .policy) blank (getD turns i blank)
-          (record { call = getD turns i blank .call; answer = Some (c .perform .result) })
-          (omega arith) (c .loop-turn .kept .turns) refl
-          (λ k. record { call = getD turns i blank .call; answer = Some (c .perform .ensures .answered k) })
-          (c .perform .ensures .left) (c .perform .ensures .told) (c .loop-turn .inv .0),
-      c .perform .ensures .lender ∙ c .loop-turn .inv .1,
+          (c .make .last .self) (omega arith) (c .loop-turn .kept .turns) refl
+          (λ k. record { call = c .make .ensures .call k; answer = c .make .ensures .answer k })
+          (c .make .ensures .made .left) (c .make .ensures .made .told) (c .loop-turn .inv .0),
+      c .make .ensures .made .lender ∙ c .loop-turn .inv .1,
     )
 
 pub returns : need.returns
