@@ -64,6 +64,8 @@ fn meaning(refusal: Refusal) -> &'static str {
         Refusal::NoSuchPlace => "no such address or stripe",
         Refusal::LogFull => "the log has no room left",
         Refusal::StripeBusy => "busy, another thread has sealed and still drains",
+        Refusal::RollNotDue => "the clock is not spent",
+        Refusal::ThreadsActive => "a thread is not idle",
     }
 }
 
@@ -79,7 +81,7 @@ impl fmt::Display for Cause as CauseDisplay {
             Loss::Beaten { holder } => write!(f, "{cause}: {} stays ahead", Named(holder)),
             Loss::Invalid { stripe } => write!(f, "{cause}: stripe {stripe} is not as it was read"),
             Loss::ClockSpent => write!(f, "{cause}: the clock is at its limit"),
-            Loss::Stolen { thief } => write!(f, "{cause}: {} took the stripe", Named(thief)),
+            Loss::Stolen { thief } => write!(f, "{cause}: {} won the stripe", Named(thief)),
         }
     }
 }

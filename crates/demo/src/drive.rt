@@ -9,7 +9,12 @@ use contention::policy::Policy;
 use layout::set_up::SetUp;
 use memory::memory::Memory;
 use rules::answer::Answer;
-use rules::stop::Stop;
+use rules::answer::AnswerFromBack;
+use rules::answer::AnswerFromBegin;
+use rules::answer::AnswerFromDrain;
+use rules::answer::AnswerFromLoad;
+use rules::answer::AnswerFromSeal;
+use rules::answer::AnswerFromStore;
 use std::io;
 use stores::word_store::WordStore;
 
@@ -68,57 +73,39 @@ impl<'a, S: WordStore, P: Policy> Drive<'a, S, P> {
 
     // Begins a transaction of a task.
     pub fn begin(&mut self, task: Task) -> io::Result<()> {
-        let answer = match self.memory.begin(task.thread()) {
-            Ok(()) => Answer::Done,
-            Err(refusal) => Answer::Refused(refusal),
-        };
+        let answer = Answer::from(self.memory.begin(task.thread()));
         self.tell(task, "begin", answer)
     }
 
     // Loads a word in the transaction of a task.
     pub fn load(&mut self, task: Task, word: Word) -> io::Result<()> {
-        let answer = match self.memory.load(task.thread(), word.address()) {
-            Ok(value) => Answer::Word(value),
-            Err(stop) => stopped(stop),
-        };
+        let answer = Answer::from(self.memory.load(task.thread(), word.address()));
         let action = format!(self.rt.alloc(), "load {word}")?;
         self.tell(task, action.as_str(), answer)
     }
 
     // Stores a value at a word in the transaction of a task.
     pub fn store(&mut self, task: Task, word: Word, value: u32) -> io::Result<()> {
-        let answer = match self.memory.store(task.thread(), word.address(), value) {
-            Ok(()) => Answer::Done,
-            Err(stop) => stopped(stop),
-        };
+        let answer = Answer::from(self.memory.store(task.thread(), word.address(), value));
         let action = format!(self.rt.alloc(), "store {word} = {value}")?;
         self.tell(task, action.as_str(), answer)
     }
 
     // Seals the transaction of a task.
     pub fn seal(&mut self, task: Task) -> io::Result<()> {
-        let answer = match self.memory.seal(task.thread()) {
-            Ok(sealed) => Answer::Sealed(sealed),
-            Err(stop) => stopped(stop),
-        };
+        let answer = Answer::from(self.memory.seal(task.thread()));
         self.tell(task, "seal", answer)
     }
 
     // Drains the next word of a task.
     pub fn drain(&mut self, task: Task) -> io::Result<()> {
-        let answer = match self.memory.drain(task.thread()) {
-            Ok(left) => Answer::Left(left),
-            Err(refusal) => Answer::Refused(refusal),
-        };
+        let answer = Answer::from(self.memory.drain(task.thread()));
         self.tell(task, "drain", answer)
     }
 
     // Has a task go back from its transaction.
     pub fn back(&mut self, task: Task) -> io::Result<()> {
-        let answer = match self.memory.back(task.thread()) {
-            Ok(ending) => Answer::Back(ending),
-            Err(refusal) => Answer::Refused(refusal),
-        };
+        let answer = Answer::from(self.memory.back(task.thread()));
         self.tell(task, "back", answer)
     }
 
@@ -126,13 +113,5 @@ impl<'a, S: WordStore, P: Policy> Drive<'a, S, P> {
     fn tell(&self, task: Task, action: &str, answer: Answer) -> io::Result<()> {
         let who = task.to_string(self.rt.alloc())?;
         page::line(self.rt, who.as_str(), action, Told(answer))
-    }
-}
-
-// The answer of a call that did not go through.
-fn stopped(stop: Stop) -> Answer {
-    match stop {
-        Stop::Refused(refusal) => Answer::Refused(refusal),
-        Stop::Lost(loss) => Answer::Lost(loss),
     }
 }

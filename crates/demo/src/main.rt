@@ -7,6 +7,7 @@ mod page;
 mod parked_keypad;
 mod patient_fieldbus;
 mod refusals;
+mod roll_over;
 mod rounds;
 mod service;
 
@@ -22,5 +23,6 @@ fn run(rt: &LibcRuntime) -> io::Result<()> {
     keypad_change::show(rt)?;
     parked_keypad::show(rt)?;
     patient_fieldbus::show(rt)?;
-    refusals::show(rt)
+    refusals::show(rt)?;
+    roll_over::show(rt)
 }

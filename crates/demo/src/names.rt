@@ -61,6 +61,16 @@ pub enum Word {
 }
 
 impl Word {
+    // The word at an address.
+    pub fn at(address: u32) -> Word {
+        match address {
+            0 => Word::Ramp,
+            1 => Word::Speed,
+            2 => Word::CurrentLimit,
+            _ => Word::Unknown(address),
+        }
+    }
+
     // Its address.
     pub fn address(self) -> u32 {
         match self {
