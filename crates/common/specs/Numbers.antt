@@ -5,6 +5,7 @@ use Rattle.common.specs.declared.refusal.Refusal.the-variants.{ThreadCount, St
 use Rattle.common.specs.declared.loss.Loss.{Loss}
 use Rattle.common.specs.declared.loss.Loss.the-variants.{Beaten, Invalid, ClockSpent, Stolen}
 
+-- the number of a refusal
 abbrev pub refusal-number : Refusal → ℕ
 refusal-number ThreadCount = 1
 refusal-number StripeCount = 2
@@ -21,6 +22,7 @@ refusal-number StripeBusy = 17
 refusal-number RollNotDue = 18
 refusal-number ThreadsActive = 19
 
+-- the number of a loss
 abbrev pub loss-cause : Loss → ℕ
 loss-cause (Beaten h) = 21
 loss-cause (Invalid s) = 22

@@ -41,12 +41,15 @@ karma-counts counts (seal-of n) = cleared counts n
 abbrev pub karma-of : List ℕ → Karma
 karma-of counts = record { counts = record { cells = counts } }
 
+-- Karma before it is told anything
 abbrev pub new-karma : Karma
 new-karma = karma-of no-counts
 
+-- the higher count beats
 abbrev pub karma-table : Karma → ℕ → ℕ → Bool
 karma-table k = outranks (k .counts .cells)
 
+-- Karma after an event
 abbrev pub karma-moved : Karma → Event → Karma
 karma-moved k e = karma-of (karma-counts (k .counts .cells) e)
 
@@ -61,11 +64,14 @@ kill-prio-counts counts (seal-of n) = cleared counts n
 abbrev pub kill-prio-of : List ℕ → KillPrio
 kill-prio-of counts = record { counts = record { cells = counts } }
 
+-- KillPrio before it is told anything
 abbrev pub new-kill-prio : KillPrio
 new-kill-prio = kill-prio-of no-counts
 
+-- the higher count beats
 abbrev pub kill-prio-table : KillPrio → ℕ → ℕ → Bool
 kill-prio-table k = outranks (k .counts .cells)
 
+-- KillPrio after an event
 abbrev pub kill-prio-moved : KillPrio → Event → KillPrio
 kill-prio-moved k e = kill-prio-of (kill-prio-counts (k .counts .cells) e)

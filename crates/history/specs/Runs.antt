@@ -27,6 +27,7 @@ loss-in Running = None
 loss-in (Sealed t d) = None
 loss-in (Lost l) = Some l
 
+-- the loss that the engine keeps for each thread
 abbrev pub losses-of : State → ℕ → Option Loss
 losses-of st n = loss-in (thread-of st n .phase)
 

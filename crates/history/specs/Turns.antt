@@ -39,5 +39,6 @@ module _ {P : Type 0} (table : P → Table) (moved : P → Event → P) where
 abbrev pub turn-of : Line → Turn
 turn-of l = record { call = l .call; answer = Some (l .answer) }
 
+-- the calls of these turns
 abbrev pub calls-of : List Turn → List Call
 calls-of ts = map (λ t. t .call) ts

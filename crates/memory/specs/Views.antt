@@ -24,12 +24,15 @@ abbrev pub owner-number : Option ThreadId → ℕ
 owner-number None = 0
 owner-number (Some t) = t .number
 
+-- a stripe by its version and the number of its owner
 abbrev pub stripe-view : StripeCell → Stripe
 stripe-view x = record { version = x .version; owner = owner-number (x .owner) }
 
+-- a read entry by the number of its stripe
 abbrev pub read-mark : ReadEntry → ReadMark
 read-mark e = record { stripe = e .stripe .number; version = e .version }
 
+-- a thread with its logs as lists
 abbrev pub thread-view : ThreadCell → Thread
 thread-view t =
     record { phase = t .phase; snapshot = t .snapshot; reads = map read-mark (logged (t .reads)); writes = logged (t .writes) }
@@ -46,6 +49,7 @@ stripe-table xs = listed new-stripe (map stripe-view xs)
 unfoldable pub thread-table : List ThreadCell → Map Thread
 thread-table ts = listed new-thread (new-thread ∷ map thread-view ts)
 
+-- the engine with its arrays as tables
 abbrev pub engine-view : Engine → State
 engine-view e = record {
   set-up = e .«set_up»;

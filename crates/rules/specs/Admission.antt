@@ -13,24 +13,28 @@ use Rattle.rules.specs.declared.phase.Phase.the-variants.{Idle, Running, Seale
 use Rattle.std.specs.declared.result.Result.{Result}
 use Rattle.std.specs.declared.result.Result.the-variants.{Ok, Err}
 
+-- the thread has no transaction
 abbrev pub is-idle : Phase → Bool
 is-idle Idle = true
 is-idle Running = false
 is-idle (Sealed t d) = false
 is-idle (Lost l) = false
 
+-- its transaction may load and store
 abbrev pub is-running : Phase → Bool
 is-running Idle = false
 is-running Running = true
 is-running (Sealed t d) = false
 is-running (Lost l) = false
 
+-- its transaction has its ticket and is to be drained
 abbrev pub is-sealed : Phase → Bool
 is-sealed Idle = false
 is-sealed Running = false
 is-sealed (Sealed t d) = true
 is-sealed (Lost l) = false
 
+-- its transaction was lost
 abbrev pub is-lost : Phase → Bool
 is-lost Idle = false
 is-lost Running = false

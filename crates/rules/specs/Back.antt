@@ -23,6 +23,7 @@ ending-of Running = GivenUp
 ending-of (Sealed t d) = GivenUp
 ending-of (Lost l) = EndedLost l
 
+-- a thread that may go back releases its stripes at their versions, and is idle
 abbrev pub back-admitted : World → ℕ → Result (Unit {0}) Refusal → Outcome
 back-admitted w n (Err r) = refuse w r
 back-admitted w n (Ok _) =

@@ -17,10 +17,12 @@ use Rattle.std.specs.declared.result.Result.the-variants.{Ok, Err}
 abbrev pub fresh : ℕ → Thread
 fresh end = record { phase = Running; snapshot = end; reads = []; writes = [] }
 
+-- no transaction begins under the roll mark
 abbrev pub begin-unmarked : World → ℕ → Bool → Outcome
 begin-unmarked w n true = refuse w RollPending
 begin-unmarked w n false = done w Done [] (with-thread (w .engine) n (fresh (w .engine .clock)))
 
+-- the roll mark counts once the thread is let in
 abbrev pub begin-admitted : World → ℕ → Result (Unit {0}) Refusal → Outcome
 begin-admitted w n (Err r) = refuse w r
 begin-admitted w n (Ok _) = begin-unmarked w n (w .engine .mark)

@@ -11,6 +11,7 @@ use Rattle.rules.specs.States.{State, ReadMark, thread-of, stripe-at, with-thr
 use Rattle.std.specs.declared.option.Option.{Option}
 use Rattle.std.specs.declared.option.Option.the-variants.{Some, None}
 
+-- the number of the thread that owns the stripe, 0 for none
 abbrev pub owner-of : State → ℕ → ℕ
 owner-of st s = stripe-at st s .owner
 
@@ -48,6 +49,7 @@ abbrev pub rechecked : State → ℕ → Option ℕ → Step
 rechecked st n None = goes (with-thread st n (with-snapshot (thread-of st n) (st .clock))) []
 rechecked st n (Some s) = loses (Invalid s) (lose st n (Invalid s))
 
+-- the read log of the thread is checked
 abbrev pub recheck : State → ℕ → Step
 recheck st n = rechecked st n (first-invalid st n (thread-of st n .reads))
 
@@ -63,9 +65,11 @@ abbrev pub clash : State → ℕ → ℕ → Bool → Step
 clash st n h true = goes (lose st h (Stolen n)) (win-over n h ∷ [])
 clash st n h false = loses (Beaten h) (lose st n (Beaten h))
 
+-- the caller meets this rival, if there is one
 abbrev pub contended : Table → State → ℕ → Option ℕ → Step
 contended beats st n None = goes st []
 contended beats st n (Some h) = clash st n h (beats n h)
 
+-- the caller meets the running holder of the stripe
 abbrev pub contend : Table → State → ℕ → ℕ → Step
 contend beats st n s = contended beats st n (rival st n s)

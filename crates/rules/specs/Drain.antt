@@ -50,6 +50,7 @@ drain-next w n ticket drained count (Some e) = record {
 abbrev pub drain-log : World → ℕ → ℕ → ℕ → List WriteEntry → Outcome
 drain-log w n ticket drained writes = drain-next w n ticket drained (length writes) (nth writes drained)
 
+-- only a sealed thread has words to drain
 abbrev pub drain-sealed : World → ℕ → Phase → Outcome
 drain-sealed w n (Sealed ticket drained) =
     drain-log w n ticket drained (thread-of (w .engine) n .writes)
@@ -57,6 +58,7 @@ drain-sealed w n Idle = refuse w WrongState
 drain-sealed w n Running = refuse w WrongState
 drain-sealed w n (Lost l) = refuse w WrongState
 
+-- the next word is drained once the thread is let in
 abbrev pub drain-admitted : World → ℕ → Result (Unit {0}) Refusal → Outcome
 drain-admitted w n (Err r) = refuse w r
 drain-admitted w n (Ok _) = drain-sealed w n (thread-of (w .engine) n .phase)

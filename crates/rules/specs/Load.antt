@@ -59,14 +59,17 @@ load-won w n a s known (loses l st) = lost w l st
 load-won w n a s known (goes st es) =
     done w (Word (getD (w .words) a 0)) (word-loaded n ∷ es) (note-read st n s known)
 
+-- the rival is met once the read log is fresh
 abbrev pub load-fresh : Table → World → ℕ → ℕ → ℕ → Bool → Step → Outcome
 load-fresh beats w n a s known (loses l st) = lost w l st
 load-fresh beats w n a s known (goes st es) = load-won w n a s known (contend beats st n s)
 
+-- a busy stripe refuses the load
 abbrev pub load-free : Table → World → ℕ → ℕ → ℕ → Bool → Bool → Outcome
 load-free beats w n a s known true = refuse w StripeBusy
 load-free beats w n a s known false = load-fresh beats w n a s known (refresh (w .engine) n s)
 
+-- a read log without room for the stripe refuses the load
 abbrev pub load-roomy : Table → World → ℕ → ℕ → ℕ → Bool → Bool → Outcome
 load-roomy beats w n a s known true = refuse w LogFull
 load-roomy beats w n a s known false = load-free beats w n a s known (busy (w .engine) n s)
@@ -76,16 +79,19 @@ abbrev pub load-stripe : Table → World → ℕ → ℕ → ℕ → Bool → Ou
 load-stripe beats w n a s known =
     load-roomy beats w n a s known (not known && is-full (thread-of (w .engine) n .reads))
 
+-- a word of the own write log is answered at once
 abbrev pub load-logged : Table → World → ℕ → ℕ → Option WriteEntry → Outcome
 load-logged beats w n a (Some e) = done w (Word (e .word)) (word-loaded n ∷ []) (w .engine)
 load-logged beats w n a None =
     load-stripe beats w n a (stripe-of (w .engine .set-up) a)
     (has-read (thread-of (w .engine) n) (stripe-of (w .engine .set-up) a))
 
+-- an address past the end refuses the load
 abbrev pub load-placed : Table → World → ℕ → ℕ → Bool → Outcome
 load-placed beats w n a false = refuse w NoSuchPlace
 load-placed beats w n a true = load-logged beats w n a (written (thread-of (w .engine) n) a)
 
+-- the address counts once the thread is let in
 abbrev pub load-admitted : Table → World → ℕ → ℕ → Result (Unit {0}) Refusal → Outcome
 load-admitted beats w n a (Err r) = refuse w r
 load-admitted beats w n a (Ok _) = load-placed beats w n a (ltb a (length (w .words)))

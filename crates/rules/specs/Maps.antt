@@ -4,6 +4,7 @@ use Prim.Native.Nat.{ℕ}
 use lib.Dec.{eqb}
 use mathlib.Core.Bool.{cond}
 
+-- a table: something at every number
 pub record Map (A : Type 0) : Type 0 where
   pub fun : ℕ → A
 

@@ -7,9 +7,11 @@ use Rattle.rules.specs.Maps.{Map, everywhere}
 use Rattle.rules.specs.States.{State, World, Stripe, Thread}
 use Rattle.rules.specs.declared.phase.Phase.the-variants.{Idle}
 
+-- a stripe that nobody has touched
 abbrev pub new-stripe : Stripe
 new-stripe = record { version = 0; owner = 0 }
 
+-- a thread that has begun nothing
 abbrev pub new-thread : Thread
 new-thread = record { phase = Idle; snapshot = 0; reads = []; writes = [] }
 

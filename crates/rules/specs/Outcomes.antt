@@ -21,6 +21,7 @@ pub data Step : Type 0 where
   goes : State → List Event → Step
   loses : Loss → State → Step
 
+-- what the policy is told in a step
 abbrev pub step-told : Step → List Event
 step-told (goes st es) = es
 step-told (loses l st) = []
@@ -40,6 +41,7 @@ pub record Outcome : Type 0 where
 abbrev pub over : World → State → World
 over w st = record { engine = st; words = w .words }
 
+-- a refusal changes nothing
 abbrev pub refuse : World → Refusal → Outcome
 refuse w r = record { answer = Refused r; told = []; after = w }
 

@@ -7,6 +7,7 @@ use Rattle.rules.specs.States.{State, stripe-at}
 use Rattle.std.specs.declared.result.Result.{Result}
 use Rattle.std.specs.declared.result.Result.the-variants.{Ok, Err}
 
+-- the lock word of a stripe of the set-up
 abbrev pub peek-at : State → Result ℕ Refusal → Result ℕ Refusal
 peek-at st (Err r) = Err r
 peek-at st (Ok s) = packed (stripe-at st s .version) (stripe-at st s .owner)

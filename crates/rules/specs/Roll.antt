@@ -23,10 +23,12 @@ abbrev pub rolled : State → State
 rolled st =
     record { set-up = st .set-up; clock = 0; mark = false; stripes = each rolled-stripe (st .stripes); threads = st .threads }
 
+-- a thread that is not idle refuses the roll
 abbrev pub roll-idle : World → Bool → Outcome
 roll-idle w false = refuse w ThreadsActive
 roll-idle w true = done w Done [] (rolled (w .engine))
 
+-- a roll without the mark is refused
 abbrev pub roll-due : World → Bool → Outcome
 roll-due w false = refuse w RollNotDue
 roll-due w true = roll-idle w (idle-to (w .engine) (w .engine .set-up .threads))

@@ -22,6 +22,7 @@ use Rattle.std.specs.declared.result.Result.the-variants.{Ok, Err}
 abbrev pub stamp : State → ℕ → State
 stamp st n = enter (with-clock st (st .clock + 1)) n (Holding (st .clock + 1) 0)
 
+-- an updater whose reads still hold is stamped
 abbrev pub seal-checked : World → ℕ → Step → Outcome
 seal-checked w n (loses l st) = lost w l st
 seal-checked w n (goes st es) = done w (Sealed (Updater (st .clock + 1))) (seal-of n ∷ []) (stamp st n)
@@ -31,6 +32,7 @@ abbrev pub seal-check : State → ℕ → Bool → Step
 seal-check st n true = goes st []
 seal-check st n false = recheck st n
 
+-- a spent clock loses the transaction and sets the roll mark
 abbrev pub seal-unspent : World → ℕ → Bool → Outcome
 seal-unspent w n true = lost w ClockSpent (lose (marked (w .engine)) n ClockSpent)
 seal-unspent w n false =
@@ -42,6 +44,7 @@ seal-updates w n true =
     done w (Sealed (Reader (thread-of (w .engine) n .snapshot))) (seal-of n ∷ []) (enter (w .engine) n Idle)
 seal-updates w n false = seal-unspent w n (leb (w .engine .set-up .limit) (w .engine .clock))
 
+-- the write log counts once the thread is let in
 abbrev pub seal-admitted : World → ℕ → Result (Unit {0}) Refusal → Outcome
 seal-admitted w n (Err r) = refuse w r
 seal-admitted w n (Ok _) = seal-updates w n (eqb (length (thread-of (w .engine) n .writes)) 0)

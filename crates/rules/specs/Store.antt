@@ -25,6 +25,7 @@ use Rattle.std.specs.declared.result.Result.the-variants.{Ok, Err}
 abbrev pub has-written : Thread → ℕ → Bool
 has-written t a = isSome (written t a)
 
+-- the word to be written at an address
 abbrev pub entry : ℕ → ℕ → WriteEntry
 entry a v = record { address = a; word = v }
 
@@ -46,14 +47,17 @@ abbrev pub store-taken : World → ℕ → ℕ → List Event → State → Bool
 store-taken w n s es st true = done w Done es st
 store-taken w n s es st false = done w Done (stripe-taken n ∷ es) (take st n s)
 
+-- the word is logged once the stripe is won
 abbrev pub store-won : World → ℕ → ℕ → ℕ → ℕ → Step → Outcome
 store-won w n a v s (loses l st) = lost w l st
 store-won w n a v s (goes st es) = store-taken w n s es (note-write st n a v) (eqb (owner-of st s) n)
 
+-- a busy stripe refuses the store
 abbrev pub store-free : Table → World → ℕ → ℕ → ℕ → ℕ → Bool → Outcome
 store-free beats w n a v s true = refuse w StripeBusy
 store-free beats w n a v s false = store-won w n a v s (contend beats (w .engine) n s)
 
+-- a full write log refuses the store
 abbrev pub store-roomy : Table → World → ℕ → ℕ → ℕ → ℕ → Bool → Outcome
 store-roomy beats w n a v s true = refuse w LogFull
 store-roomy beats w n a v s false = store-free beats w n a v s (busy (w .engine) n s)
@@ -63,14 +67,17 @@ abbrev pub store-stripe : Table → World → ℕ → ℕ → ℕ → ℕ → Ou
 store-stripe beats w n a v s =
     store-roomy beats w n a v s (is-full (thread-of (w .engine) n .writes))
 
+-- a logged address has its word replaced
 abbrev pub store-logged : Table → World → ℕ → ℕ → ℕ → Bool → Outcome
 store-logged beats w n a v true = done w Done [] (rewrite (w .engine) n a v)
 store-logged beats w n a v false = store-stripe beats w n a v (stripe-of (w .engine .set-up) a)
 
+-- an address past the end refuses the store
 abbrev pub store-placed : Table → World → ℕ → ℕ → ℕ → Bool → Outcome
 store-placed beats w n a v false = refuse w NoSuchPlace
 store-placed beats w n a v true = store-logged beats w n a v (has-written (thread-of (w .engine) n) a)
 
+-- the address counts once the thread is let in
 abbrev pub store-admitted : Table → World → ℕ → ℕ → ℕ → Result (Unit {0}) Refusal → Outcome
 store-admitted beats w n a v (Err r) = refuse w r
 store-admitted beats w n a v (Ok _) = store-placed beats w n a v (ltb a (length (w .words)))
