@@ -4,6 +4,7 @@ pub mod Begin
 pub mod Callers
 pub mod Drain
 pub mod DrainSteps
+pub mod Faults
 pub mod Fronts
 pub mod GoingOn
 pub mod Growth

@@ -1,3 +1,4 @@
+pub mod Faults
 pub mod Law
 pub mod Record
 pub mod Runs
