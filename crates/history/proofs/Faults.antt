@@ -5,7 +5,7 @@ use mathlib.Core.Bool.{Bool, true, false, not, _&&_, _||_}
 use mathlib.Core.List.{List}
 use mathlib.Core.Path.{_≡_, refl}
 use native.Mathlib.Omega.{arith}
-use Rattle.history.specs.Faults.{Lawful, Unlawful, first-words, one-ahead, both-made-two, half-drained, lost-update, torn-read, unchecked-loads, leader-beaten, leader-stolen-from, given-up-word}
+use Rattle.history.specs.Faults.{Lawful, Unlawful, first-words, one-ahead, both-made-two, half-drained, lost-update, torn-read, unchecked-loads, leader-beaten, leader-invalid, leader-stolen-from, given-up-word}
 use Rattle.history.specs.Law.{Loads-at, Point, Spared, updater}
 use Rattle.history.specs.Record.{History, Line, Work, history, leads}
 use Rattle.history.specs.Serial.{loaded-on}
@@ -57,6 +57,11 @@ one-leads (suc m) = rw (one-or-another (eqb (suc m) 1), one-leads m) refl
 
 pub leader-beaten-is-unlawful : Unlawful leader-beaten
 leader-beaten-is-unlawful u l = l .leaders-are-spared .latest 1 (rw (one-leads (u .threads)) refl)
+
+-- no updater is numbered below 0
+pub leader-invalid-is-unlawful : Unlawful leader-invalid
+leader-invalid-is-unlawful u l =
+    let excuse = l .leaders-are-spared .latest 1 (rw (one-leads (u .threads)) refl) in omega (arith, excuse .2)
 
 pub leader-stolen-from-is-unlawful : Unlawful leader-stolen-from
 leader-stolen-from-is-unlawful u l = l .leaders-are-spared .latest 1 (rw (one-leads (u .threads)) refl)

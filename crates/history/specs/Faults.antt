@@ -5,7 +5,7 @@ use lib.Dec.{eqb}
 use mathlib.Core.Bool.{cond}
 use mathlib.Core.List.{List, [], _∷_, _++_}
 use Rattle.common.specs.declared.loss.Loss.{Loss}
-use Rattle.common.specs.declared.loss.Loss.the-variants.{Beaten, Stolen}
+use Rattle.common.specs.declared.loss.Loss.the-variants.{Beaten, Invalid, Stolen}
 use Rattle.history.specs.Law.{Law}
 use Rattle.history.specs.Record.{Line}
 use Rattle.layout.specs.declared.set_up.SetUp.{SetUp}
@@ -116,6 +116,14 @@ leader-stolen-from =
     line (Store 1 0 2) Done 1 1 ∷
     line (Begin 2) Done 1 1 ∷
     line-one-lost (Stolen 2) (Store 2 0 3) Done 1 1 ∷
+    []
+
+-- thread 1 is told that a stripe is no longer as it read it, though nobody has sealed
+abbrev pub leader-invalid : List Line
+leader-invalid =
+    line (Begin 1) Done 1 1 ∷
+    line (Load 1 0) (Word 1) 1 1 ∷
+    line-one-lost (Invalid 0) (Load 1 1) (Lost (Invalid 0)) 1 1 ∷
     []
 
 -- thread 2 gives its transaction up, and what it stored is in the store, over the words of thread 1
