@@ -1,8 +1,8 @@
 pub mod Admission
 pub mod Answers
+pub mod Back
 pub mod Begin
 pub mod Calls
-pub mod Back
 pub mod Conflicts
 pub mod Drain
 pub mod Endings

@@ -1,7 +1,7 @@
 ghost use mathlib.Core.Path.{_≡_};
 ghost use Rattle.rules.specs.Admission.{tells-loss};
 
-// The calls on a thread, by kind.
+// Which of the calls on a thread is made, without what it is given.
 #[derive(Clone, Copy)]
 pub enum Kind {
     Begin,
