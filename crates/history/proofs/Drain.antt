@@ -11,20 +11,19 @@ use Rattle.common.specs.declared.refusal.Refusal.{Refusal}
 use Rattle.common.specs.declared.refusal.Refusal.the-variants.{WrongState}
 use Rattle.history.proofs.Callers.{holds-on}
 use Rattle.history.proofs.DrainSteps.{Drain-step, drained-engine, drained-outcome, drained-once, held-by, step-keeps}
-use Rattle.history.proofs.Replacing.{misses-dropped}
 use Rattle.history.proofs.Fronts.{hold-none}
 use Rattle.history.proofs.Invariant.{Fits, Front, Sealed-fits, Phase-fits, front, hold-of, left-in, top, top-of}
-use Rattle.history.proofs.Logs.{misses-unowned, put-in-length, put-in-misses}
+use Rattle.history.proofs.KeyedEntries.{has-dropped, never-has}
 use Rattle.history.proofs.Maps.{at-put-same, at-put-other, at-each}
 use Rattle.history.proofs.Nexts.{next-some, next-none}
 use Rattle.history.proofs.Nobody.{no-thread-0}
 use Rattle.history.proofs.Phases.{admitted-parts}
 use Rattle.history.proofs.Plan.{Kept, Drain-keeps}
+use Rattle.history.proofs.PutIn.{address-of, has-address, put-in-length, put-in-misses}
 use Rattle.history.proofs.Refusals.{refused-keeps}
 use Rattle.history.specs.Record.{History, Work, called, no-work}
 use Rattle.history.specs.Runs.{loss-in}
 use Rattle.history.specs.Serial.{put-in, write-log, drain-count}
-use Rattle.layout.specs.Lookups.{has-key}
 use Rattle.layout.specs.SetUps.{stripe-of}
 use Rattle.layout.specs.declared.entries.WriteEntry.{WriteEntry}
 use Rattle.layout.specs.declared.set_up.SetUp.{SetUp}
@@ -82,9 +81,8 @@ module _ (ws : List ℕ) (base : ℕ) (w : World) (h : History) (beats : Table) 
   other-entered p k d = at-put-other (w .engine .threads) n k (with-phase (thread-of (w .engine) n) p) d
 
   -- an address of a stripe that is another's is not to be drained
-  not-left : (a : ℕ) → (owners (stripe-of u a) ≡ n → ⊥) → has-key (λ e. e .address) a (drop drained log) ≡ false
-  not-left a d =
-      misses-dropped (λ (e : WriteEntry). e .address) a drained log (misses-unowned u owners n log a (q .owns-log) d)
+  not-left : (a : ℕ) → (owners (stripe-of u a) ≡ n → ⊥) → has-address a (drop drained log) ≡ false
+  not-left a d = never-has address-of a (drop drained log) (λ has. d (q .owns-log a (has-dropped address-of a drained log has)))
 
   -- a word that is not the last: the thread stays sealed and holds its stripes with one entry less
   module _ (e : WriteEntry) (next : drop drained log ≡ e ∷ drop (drained + 1) log) where
@@ -109,9 +107,8 @@ module _ (ws : List ℕ) (base : ℕ) (w : World) (h : History) (beats : Table) 
     -- the next entry is not for an address of another stripe
     on-words : (a : ℕ) → (owners (stripe-of u a) ≡ n → ⊥) → getD (w .words) a 0 ≡ getD now-on a 0
     on-words a d =
-        let none : has-key (λ (y : WriteEntry). y .address) a (e ∷ drop (drained + 1) log) ≡ false =
-        ap (has-key (λ y. y .address) a) (sym next) ∙ not-left a d in
-        let apart = or-parts (eqb (e .address) a) (has-key (λ y. y .address) a (drop (drained + 1) log)) none .0 in
+        let none : has-address a (e ∷ drop (drained + 1) log) ≡ false = ap (has-address a) (sym next) ∙ not-left a d in
+        let apart = or-parts (eqb (e .address) a) (has-address a (drop (drained + 1) log)) none .0 in
         sym (getD-set-other (w .words) (e .address) a (e .word) 0 (λ x. eqb-false (e .address) a apart (sym x)))
 
     -- it is sealed as before, with one call more

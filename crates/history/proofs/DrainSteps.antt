@@ -10,10 +10,11 @@ use Rattle.history.proofs.Callers.{present-unlost, draining-other}
 use Rattle.history.proofs.Growth.{Grows, loads-grow, point-grows, points-grow, all-spared-grow}
 use Rattle.history.proofs.Invariant.{Fits, Front, Hold, Stripe-fits, Word-fits, Sealed-fits, Phase-fits, Seat, Draining, Spent, front, hold-in, hold-of, left-in, left-of, top, top-of}
 use Rattle.history.proofs.Lines.{leads-at}
-use Rattle.history.proofs.Logs.{drain-grows, put-in-same}
 use Rattle.history.proofs.Nobody.{seat-nobody}
 use Rattle.history.proofs.Plan.{Kept, then}
+use Rattle.history.proofs.PutIn.{put-in-same}
 use Rattle.history.proofs.Quiet.{quiet-state}
+use Rattle.history.proofs.SerialRuns.{drain-grows}
 use Rattle.history.proofs.Seats.{Apart, seat-apart, seat-other, number-other}
 use Rattle.history.specs.Law.{updater, Loads-at, Spared}
 use Rattle.history.specs.Record.{History, Line, Transaction, Work, Fall, called, with-work, watched, rewritten, no-work}
@@ -162,7 +163,7 @@ module _ (ws : List ℕ) (base : ℕ) (w : World) (h : History) (beats : Table) 
       let s = stripe-of u a in
       ap (λ (xs : List ℕ). getD xs a 0) same-serial
       ∙ f .words a l
-      ∙ put-in-same (w .words) now (left-in (front (w .engine) s)) a (sym (x .sized)) (x .words-other a d)
+      ∙ put-in-same (w .words) now (left-in (front (w .engine) s)) a l (omega (arith, x .sized)) (x .words-other a d)
       ∙ ap (λ (y : Front). getD (put-in now (left-in y)) a 0) (sym (x .fronts-other s d))
 
   -- the caller's thread

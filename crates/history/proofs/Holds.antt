@@ -8,10 +8,11 @@ use mathlib.Core.Path.{_≡_, refl, ap, sym, _∙_}
 use native.Mathlib.Omega.{arith}
 use Rattle.history.proofs.Alone.{free-not-sealed}
 use Rattle.history.proofs.Invariant.{Draining, Fits, Sealed-fits, Spent, front, hold-in, hold-of, left-in, left-of}
+use Rattle.history.proofs.KeyedEntries.{has-dropped, never-has}
 use Rattle.history.proofs.Phases.{fits-sealed}
 use Rattle.history.proofs.Plan.{Fits-holds}
-use Rattle.history.proofs.Rests.{key-of-left}
-use Rattle.history.proofs.Undrained.{has-address, length-put-in, length-serial-run, none-undrained, one-undrained}
+use Rattle.history.proofs.PutIn.{address-of, has-address, none-undrained, one-undrained, put-in-length}
+use Rattle.history.proofs.SerialRuns.{serial-length}
 use Rattle.history.specs.Law.{updater}
 use Rattle.history.specs.Record.{History}
 use Rattle.history.specs.Serial.{all-not-drained, drain-count, not-drained, put-in, serial-run}
@@ -39,11 +40,6 @@ sealed-or-free t = go (t .phase) refl
 -- one transaction has one number
 one-number : (o : Option ℕ) (k p : ℕ) → o ≡ Some k → o ≡ Some p → k ≡ p
 one-number o k p e i = cc
-
--- a test that is never true is false
-false-if-never : (b : Bool) → (b ≡ true → ⊥) → b ≡ false
-false-if-never true e = absurd (e refl)
-false-if-never false e = refl
 
 module _ (ws : List ℕ) (base : ℕ) (w : World) (h : History) (f : Fits ws base w h) where
   -- what is known of a sealed thread
@@ -80,7 +76,7 @@ module _ (ws : List ℕ) (base : ℕ) (w : World) (h : History) (f : Fits ws bas
       owned x =
           let s = sealed-seat (x .thread) (x .ticket) (x .drained) (x .sealed) in
           let p : k ≡ s .place = one-number (h .present (x .thread) .work .number) k (s .place) (x .numbered) (s .numbered) in
-          s .owns-log a (key-of-left (λ (y : WriteEntry). y .address) a (x .drained) (thread-of (w .engine) (x .thread) .writes)
+          s .owns-log a (has-dropped address-of a (x .drained) (thread-of (w .engine) (x .thread) .writes)
           (ap (has-address a) (left-undrained (x .thread) (x .ticket) (x .drained) (x .sealed) ∙ ap (λ (i : ℕ). not-drained (updater (h .updaters) i)) (sym p)) ∙ e))
 
       go : Spent (w .engine) h k → (x : Draining (w .engine) h k) × (owner-at a ≡ x .thread)
@@ -97,7 +93,7 @@ module _ (ws : List ℕ) (base : ℕ) (w : World) (h : History) (f : Fits ws bas
   held-word : (a k d : ℕ) → a < length (w .words) → thread-of (w .engine) (owner-at a) .phase ≡ Sealed k d → Holder-drains a
   held-word a k d l e =
       one-undrained (w .words) (h .updaters) (x .place) a l
-      (λ i m n. false-if-never (has-address a (not-drained (updater (h .updaters) i))) (λ t. n (same-place i (drains-own a i m t)))) (x .so-far)
+      (λ i m n. never-has address-of a (not-drained (updater (h .updaters) i)) (λ t. n (same-place i (drains-own a i m t)))) (x .so-far)
       ∙ ap (λ (es : List WriteEntry). getD (put-in (w .words) es) a 0)
       (sym (ap (λ (p : Phase). left-of (hold-in (thread-of (w .engine) (owner-at a) .writes) p)) e ∙ left-undrained (owner-at a) k d e))
     where
@@ -113,7 +109,7 @@ module _ (ws : List ℕ) (base : ℕ) (w : World) (h : History) (f : Fits ws bas
   free-word : (a : ℕ) → hold-of (thread-of (w .engine) (owner-at a)) ≡ None → Holder-drains a
   free-word a free =
       none-undrained (w .words) (h .updaters) a
-      (λ i m. false-if-never (has-address a (not-drained (updater (h .updaters) i))) (λ t. nowhere i (drains-own a i m t)))
+      (λ i m. never-has address-of a (not-drained (updater (h .updaters) i)) (λ t. nowhere i (drains-own a i m t)))
       ∙ ap (λ o. getD (put-in (w .words) (left-of o)) a 0) (sym free)
     where
       nowhere : (i : ℕ) → (y : Draining (w .engine) h i) × (owner-at a ≡ y .thread) → ⊥
@@ -133,11 +129,11 @@ module _ (ws : List ℕ) (base : ℕ) (w : World) (h : History) (f : Fits ws bas
   undrained-words : put-in (w .words) (all-not-drained (h .updaters)) ≡ serial-run ws (h .updaters)
   undrained-words =
       ext-getD 0 (put-in (w .words) (all-not-drained (h .updaters))) (serial-run ws (h .updaters))
-      (put ∙ f .sized ∙ sym (length-serial-run ws (h .updaters)))
+      (put ∙ f .sized ∙ sym (serial-length ws (h .updaters)))
       (λ a l. let i : a < length (w .words) = omega (arith, put) in undrained-word a i ∙ sym (f .words a i))
     where
       put : length (put-in (w .words) (all-not-drained (h .updaters))) ≡ length (w .words)
-      put = length-put-in (w .words) (all-not-drained (h .updaters))
+      put = put-in-length (w .words) (all-not-drained (h .updaters))
 
 -- what fits a history keeps the law
 pub fits-holds : Fits-holds

@@ -14,11 +14,11 @@ use Rattle.contention.specs.Events.{Event, word-loaded}
 use Rattle.history.proofs.GoingOn.{Left-or-beaten, goes-on-keeps}
 use Rattle.history.proofs.Holders.{free-hold}
 use Rattle.history.proofs.Invariant.{Fits, Front, Mark-fits, Running-fits, front}
-use Rattle.history.proofs.KeyedEntries.{grown-roomy, has-before, has-pushed}
-use Rattle.history.proofs.Keys.{found-has}
+use Rattle.history.proofs.KeyedEntries.{found-has, grown-roomy, has-before, has-pushed}
+use Rattle.history.proofs.Logs.{log-finds-kept}
 use Rattle.history.proofs.Maps.{at-put-same, at-put-other}
 use Rattle.history.proofs.Phases.{Admitted, admitted-parts, running-phase}
-use Rattle.history.proofs.Plan.{Kept, Leader-beats, Load-keeps, Log-finds-kept, Lost-keeps}
+use Rattle.history.proofs.Plan.{Kept, Leader-beats, Load-keeps, Lost-keeps}
 use Rattle.history.proofs.Quiet.{quiet-outcome}
 use Rattle.history.proofs.ReadLogs.{free-word-agrees, invalid-excuses, refresh-agrees}
 use Rattle.history.proofs.Refusals.{refused-keeps}
@@ -112,114 +112,113 @@ module _ (leader-beats : Leader-beats) (ws : List ℕ) (base : ℕ) (w : World) 
             (thread-of (w .engine) n) (h .present n .work) (h .present n .fall) rs (running-fits ws base w h n f run) x);
       })
 
-  module _ (log-finds-kept : Log-finds-kept) where
-    -- what the write log finds is what the transaction kept
-    finds-kept : (o : Option WriteEntry) → written (thread-of (w .engine) n) a ≡ o →
-        first-with (λ e. e .address) a (kept (h .present n .work .calls)) ≡ o
-    finds-kept o e =
-        sym (log-finds-kept (h .present n .work .calls) a)
-        ∙ ap (first-with (λ (y : WriteEntry). y .address) a) (sym (running-fits ws base w h n f run .log)) ∙ e
+  -- what the write log finds is what the transaction kept
+  finds-kept : (o : Option WriteEntry) → written (thread-of (w .engine) n) a ≡ o →
+      first-with (λ e. e .address) a (kept (h .present n .work .calls)) ≡ o
+  finds-kept o e =
+      sym (log-finds-kept (h .present n .work .calls) a)
+      ∙ ap (first-with (λ (y : WriteEntry). y .address) a) (sym (running-fits ws base w h n f run .log)) ∙ e
 
-    -- a load from the own log
-    own-log-keeps : (e : WriteEntry) → written (thread-of (w .engine) n) a ≡ Some e →
-        Kept ws base w h beats (Load n a) (load-logged beats w n a (Some e))
-    own-log-keeps e found =
-        answered-keeps (e .word) (thread-of (w .engine) n .snapshot) (thread-of (w .engine) n .reads) (word-loaded n ∷ []) (w .engine .threads) refl
-        (λ k d. inl refl)
-        (record {
-          later = omega arith;
-          so-far = omega (arith, r .by-last-load, r .so-far);
-          loads = r .loads;
-          here = ap (word-or _) (finds-kept (Some e) found);
-          only = λ xs ys same. ap (word-or (getD xs a 0)) (finds-kept (Some e) found) ∙ sym (ap (word-or (getD ys a 0)) (finds-kept (Some e) found));
-          more = λ s has. has;
-          marks = r .marks;
-        })
+  -- a load from the own log
+  own-log-keeps : (e : WriteEntry) → written (thread-of (w .engine) n) a ≡ Some e →
+      Kept ws base w h beats (Load n a) (load-logged beats w n a (Some e))
+  own-log-keeps e found =
+      answered-keeps (e .word) (thread-of (w .engine) n .snapshot) (thread-of (w .engine) n .reads) (word-loaded n ∷ []) (w .engine .threads) refl
+      (λ k d. inl refl)
+      (record {
+        later = omega arith;
+        so-far = omega (arith, r .by-last-load, r .so-far);
+        loads = r .loads;
+        here = ap (word-or _) (finds-kept (Some e) found);
+        only = λ xs ys same. ap (word-or (getD xs a 0)) (finds-kept (Some e) found) ∙ sym (ap (word-or (getD ys a 0)) (finds-kept (Some e) found));
+        more = λ s has. has;
+        marks = r .marks;
+      })
+    where
+      r : Running-fits (w .engine .set-up) ws (h .updaters) base (front (w .engine)) (owner-of (w .engine)) n
+          (thread-of (w .engine) n) (h .present n .work) (h .present n .fall)
+      r = running-fits ws base w h n f run
+
+  -- a load from a stripe that no sealed thread holds, at a snapshot end that its version does not pass
+  module _ (s end : ℕ) (here : stripe-of (w .engine .set-up) a ≡ s) (inside : a < length (w .words))
+      (logless : written (thread-of (w .engine) n) a ≡ None) (free : front (w .engine) s .hold ≡ None)
+      (later : thread-of (w .engine) n .snapshot ≤ end) (fresh : stripe-at (w .engine) s .version ≤ end)
+      (so-far : base + end ≤ length (h .updaters)) (loads : Loads-at ws (h .updaters) (base + end) (h .present n .work)) where
+    -- the stored word is the one that the transaction loads
+    stored-word : seen (words-at ws (h .updaters) (base + end)) (kept (h .present n .work .calls)) a ≡ getD (w .words) a 0
+    stored-word =
+        ap (word-or (getD (words-at ws (h .updaters) (base + end)) a 0)) (finds-kept None logless)
+        ∙ free-word-agrees ws base w h a (base + end) f inside
+        (ap (λ (x : ℕ). front (w .engine) x .hold) here ∙ free)
+        (omega (arith, fresh, ap (λ (x : ℕ). stripe-at (w .engine) x .version) here)) so-far
+
+    -- the marks stay, at a later snapshot end
+    marks-later : All (λ e. Mark-fits (w .engine .set-up) (h .updaters) n (h .present n .work .begun) end (front (w .engine) (e .stripe)) e) (thread-of (w .engine) n .reads)
+    marks-later =
+        all-weaker _ _ (λ e m. record { old = omega (arith, later, m .old); state = m .state }) (thread-of (w .engine) n .reads) (running-fits ws base w h n f run .marks)
+
+    -- so the transaction is answered that word, if its read log has the stripe now
+    answered-stored : (rs : List ReadMark) → has-key (λ e. e .stripe) s rs ≡ true →
+        ((x : ℕ) → has-key (λ e. e .stripe) x (thread-of (w .engine) n .reads) ≡ true → has-key (λ e. e .stripe) x rs ≡ true) →
+        All (λ e. Mark-fits (w .engine .set-up) (h .updaters) n (h .present n .work .begun) end (front (w .engine) (e .stripe)) e) rs →
+        Answered (w .engine .set-up) ws (h .updaters) base (front (w .engine)) n a (getD (w .words) a 0) end (thread-of (w .engine) n) (h .present n .work) rs
+    answered-stored rs has more marks = record {
+      later = later;
+      so-far = so-far;
+      loads = loads;
+      here = stored-word;
+      only = λ xs ys same.
+          ap (word-or (getD xs a 0)) (finds-kept None logless)
+          ∙ same a (subst (λ (x : ℕ). has-key (λ e. e .stripe) x rs ≡ true) (sym here) has)
+          ∙ sym (ap (word-or (getD ys a 0)) (finds-kept None logless));
+      more = more;
+      marks = marks;
+    }
+
+    -- the read entry of the stripe
+    abbrev mark : ReadMark
+    mark = record { stripe = s; version = stripe-at (w .engine) s .version }
+
+    -- a stripe that is known
+    known-keeps : (ts : Map Thread) (es : List Event) → has-read (thread-of (w .engine) n) s ≡ true → Won beats (w .engine) n s end ts →
+        Kept ws base w h beats (Load n a) (load-won w n a s true (goes (threaded (w .engine) ts) es))
+    known-keeps ts es known won =
+        answered-keeps (getD (w .words) a 0) end (thread-of (w .engine) n .reads) (word-loaded n ∷ es) ts (won .own) (won .others)
+        (answered-stored (thread-of (w .engine) n .reads) (sym (found-has (λ e. e .stripe) s (thread-of (w .engine) n .reads)) ∙ known)
+        (λ x has. has) marks-later)
+
+    -- a stripe that is noted now
+    noted-keeps : (ts : Map Thread) (es : List Event) → is-full (thread-of (w .engine) n .reads) ≡ false → Won beats (w .engine) n s end ts →
+        Kept ws base w h beats (Load n a) (load-won w n a s false (goes (threaded (w .engine) ts) es))
+    noted-keeps ts es roomy won =
+        answered-keeps (getD (w .words) a 0) end (thread-of (w .engine) n .reads ++ mark ∷ []) (word-loaded n ∷ es) (put ts n noted)
+        (at-put-same ts n noted ∙ ap (λ (t : Thread). with-reads t (grown (t .reads) mark)) (won .own)
+        ∙ ap (λ (rs : List ReadMark). read-on (thread-of (w .engine) n) end rs) (grown-roomy (thread-of (w .engine) n .reads) mark roomy))
+        (won-then beats (w .engine) n s end ts noted won)
+        (answered-stored (thread-of (w .engine) n .reads ++ mark ∷ []) (has-pushed (λ e. e .stripe) s (thread-of (w .engine) n .reads) mark refl)
+        (λ x has. has-before (λ e. e .stripe) x (thread-of (w .engine) n .reads) mark has)
+        (all-push (λ e. Mark-fits (w .engine .set-up) (h .updaters) n (h .present n .work .begun) end (front (w .engine) (e .stripe)) e)
+        (thread-of (w .engine) n .reads) mark marks-later (record { old = fresh; state = inl (refl, free) })))
       where
-        r : Running-fits (w .engine .set-up) ws (h .updaters) base (front (w .engine)) (owner-of (w .engine)) n
-            (thread-of (w .engine) n) (h .present n .work) (h .present n .fall)
-        r = running-fits ws base w h n f run
+        noted : Thread
+        noted = with-reads (at ts n) (grown (at ts n .reads) mark)
 
-    -- a load from a stripe that no sealed thread holds, at a snapshot end that its version does not pass
-    module _ (s end : ℕ) (here : stripe-of (w .engine .set-up) a ≡ s) (inside : a < length (w .words))
-        (logless : written (thread-of (w .engine) n) a ≡ None) (free : front (w .engine) s .hold ≡ None)
-        (later : thread-of (w .engine) n .snapshot ≤ end) (fresh : stripe-at (w .engine) s .version ≤ end)
-        (so-far : base + end ≤ length (h .updaters)) (loads : Loads-at ws (h .updaters) (base + end) (h .present n .work)) where
-      -- the stored word is the one that the transaction loads
-      stored-word : seen (words-at ws (h .updaters) (base + end)) (kept (h .present n .work .calls)) a ≡ getD (w .words) a 0
-      stored-word =
-          ap (word-or (getD (words-at ws (h .updaters) (base + end)) a 0)) (finds-kept None logless)
-          ∙ free-word-agrees ws base w h a (base + end) f inside
-          (ap (λ (x : ℕ). front (w .engine) x .hold) here ∙ free)
-          (omega (arith, fresh, ap (λ (x : ℕ). stripe-at (w .engine) x .version) here)) so-far
+    -- the stripe is won: known before or not
+    won-keeps : (known : Bool) → has-read (thread-of (w .engine) n) s ≡ known → (not known && is-full (thread-of (w .engine) n .reads)) ≡ false →
+        (ts : Map Thread) (es : List Event) → Won beats (w .engine) n s end ts →
+        Kept ws base w h beats (Load n a) (load-won w n a s known (goes (threaded (w .engine) ts) es))
+    won-keeps true e roomy ts es won = known-keeps ts es e won
+    won-keeps false e roomy ts es won = noted-keeps ts es roomy won
 
-      -- the marks stay, at a later snapshot end
-      marks-later : All (λ e. Mark-fits (w .engine .set-up) (h .updaters) n (h .present n .work .begun) end (front (w .engine) (e .stripe)) e) (thread-of (w .engine) n .reads)
-      marks-later =
-          all-weaker _ _ (λ e m. record { old = omega (arith, later, m .old); state = m .state }) (thread-of (w .engine) n .reads) (running-fits ws base w h n f run .marks)
-
-      -- so the transaction is answered that word, if its read log has the stripe now
-      answered-stored : (rs : List ReadMark) → has-key (λ e. e .stripe) s rs ≡ true →
-          ((x : ℕ) → has-key (λ e. e .stripe) x (thread-of (w .engine) n .reads) ≡ true → has-key (λ e. e .stripe) x rs ≡ true) →
-          All (λ e. Mark-fits (w .engine .set-up) (h .updaters) n (h .present n .work .begun) end (front (w .engine) (e .stripe)) e) rs →
-          Answered (w .engine .set-up) ws (h .updaters) base (front (w .engine)) n a (getD (w .words) a 0) end (thread-of (w .engine) n) (h .present n .work) rs
-      answered-stored rs has more marks = record {
-        later = later;
-        so-far = so-far;
-        loads = loads;
-        here = stored-word;
-        only = λ xs ys same.
-            ap (word-or (getD xs a 0)) (finds-kept None logless)
-            ∙ same a (subst (λ (x : ℕ). has-key (λ e. e .stripe) x rs ≡ true) (sym here) has)
-            ∙ sym (ap (word-or (getD ys a 0)) (finds-kept None logless));
-        more = more;
-        marks = marks;
-      }
-
-      -- the read entry of the stripe
-      abbrev mark : ReadMark
-      mark = record { stripe = s; version = stripe-at (w .engine) s .version }
-
-      -- a stripe that is known
-      known-keeps : (ts : Map Thread) (es : List Event) → has-read (thread-of (w .engine) n) s ≡ true → Won beats (w .engine) n s end ts →
-          Kept ws base w h beats (Load n a) (load-won w n a s true (goes (threaded (w .engine) ts) es))
-      known-keeps ts es known won =
-          answered-keeps (getD (w .words) a 0) end (thread-of (w .engine) n .reads) (word-loaded n ∷ es) ts (won .own) (won .others)
-          (answered-stored (thread-of (w .engine) n .reads) (sym (found-has (λ e. e .stripe) s (thread-of (w .engine) n .reads)) ∙ known)
-          (λ x has. has) marks-later)
-
-      -- a stripe that is noted now
-      noted-keeps : (ts : Map Thread) (es : List Event) → is-full (thread-of (w .engine) n .reads) ≡ false → Won beats (w .engine) n s end ts →
-          Kept ws base w h beats (Load n a) (load-won w n a s false (goes (threaded (w .engine) ts) es))
-      noted-keeps ts es roomy won =
-          answered-keeps (getD (w .words) a 0) end (thread-of (w .engine) n .reads ++ mark ∷ []) (word-loaded n ∷ es) (put ts n noted)
-          (at-put-same ts n noted ∙ ap (λ (t : Thread). with-reads t (grown (t .reads) mark)) (won .own)
-          ∙ ap (λ (rs : List ReadMark). read-on (thread-of (w .engine) n) end rs) (grown-roomy (thread-of (w .engine) n .reads) mark roomy))
-          (won-then beats (w .engine) n s end ts noted won)
-          (answered-stored (thread-of (w .engine) n .reads ++ mark ∷ []) (has-pushed (λ e. e .stripe) s (thread-of (w .engine) n .reads) mark refl)
-          (λ x has. has-before (λ e. e .stripe) x (thread-of (w .engine) n .reads) mark has)
-          (all-push (λ e. Mark-fits (w .engine .set-up) (h .updaters) n (h .present n .work .begun) end (front (w .engine) (e .stripe)) e)
-          (thread-of (w .engine) n .reads) mark marks-later (record { old = fresh; state = inl (refl, free) })))
-        where
-          noted : Thread
-          noted = with-reads (at ts n) (grown (at ts n .reads) mark)
-
-      -- the stripe is won: known before or not
-      won-keeps : (known : Bool) → has-read (thread-of (w .engine) n) s ≡ known → (not known && is-full (thread-of (w .engine) n .reads)) ≡ false →
-          (ts : Map Thread) (es : List Event) → Won beats (w .engine) n s end ts →
-          Kept ws base w h beats (Load n a) (load-won w n a s known (goes (threaded (w .engine) ts) es))
-      won-keeps true e roomy ts es won = known-keeps ts es e won
-      won-keeps false e roomy ts es won = noted-keeps ts es roomy won
-
-      -- from the snapshot end on: the meeting, then the word
-      pub fresh-keeps : Lost-keeps → (known : Bool) → has-read (thread-of (w .engine) n) s ≡ known →
-          (not known && is-full (thread-of (w .engine) n .reads)) ≡ false → (ts : Map Thread) → Refreshed (w .engine) n end ts →
-          (es : List Event) → Kept ws base w h beats (Load n a) (load-fresh beats w n a s known (goes (threaded (w .engine) ts) es))
-      fresh-keeps lost-keeps known e roomy ts r es =
-          contend-keeps lost-keeps leader-beats ws base w h beats (Load n a) s end ts f run r (load-won w n a s known) (λ l st. refl) (won-keeps known e roomy)
+    -- from the snapshot end on: the meeting, then the word
+    pub fresh-keeps : Lost-keeps → (known : Bool) → has-read (thread-of (w .engine) n) s ≡ known →
+        (not known && is-full (thread-of (w .engine) n .reads)) ≡ false → (ts : Map Thread) → Refreshed (w .engine) n end ts →
+        (es : List Event) → Kept ws base w h beats (Load n a) (load-fresh beats w n a s known (goes (threaded (w .engine) ts) es))
+    fresh-keeps lost-keeps known e roomy ts r es =
+        contend-keeps lost-keeps leader-beats ws base w h beats (Load n a) s end ts f run r (load-won w n a s known) (λ l st. refl) (won-keeps known e roomy)
 
 -- the checks of a load, one after another
-module _ (lost-keeps : Lost-keeps) (leader-beats : Leader-beats) (log-finds-kept : Log-finds-kept)
+module _ (lost-keeps : Lost-keeps) (leader-beats : Leader-beats)
     (ws : List ℕ) (base : ℕ) (w : World) (h : History) (beats : Table) (n a : ℕ) (f : Fits ws base w h) where
   -- the stripe of the address
   abbrev loaded-stripe : ℕ
@@ -238,7 +237,7 @@ module _ (lost-keeps : Lost-keeps) (leader-beats : Leader-beats) (log-finds-kept
       old-keeps : stripe-at (w .engine) loaded-stripe .version ≤ thread-of (w .engine) n .snapshot →
           Kept ws base w h beats (Load n a) (load-fresh beats w n a loaded-stripe known (goes (w .engine) []))
       old-keeps old =
-          fresh-keeps leader-beats ws base w h beats n a f run log-finds-kept loaded-stripe (thread-of (w .engine) n .snapshot) refl inside logless free
+          fresh-keeps leader-beats ws base w h beats n a f run loaded-stripe (thread-of (w .engine) n .snapshot) refl inside logless free
           (omega arith) old (omega (arith, r .by-last-load, r .so-far)) (r .loads)
           lost-keeps known e roomy (w .engine .threads) (record { own = refl; others = λ k d. refl }) []
 
@@ -249,7 +248,7 @@ module _ (lost-keeps : Lost-keeps) (leader-beats : Leader-beats) (log-finds-kept
       checked-keeps newer valid =
           let by-clock : stripe-at (w .engine) loaded-stripe .version ≤ w .engine .clock =
           omega (arith, f .stripes loaded-stripe .rises, f .stripes loaded-stripe .by-clock) in
-          fresh-keeps leader-beats ws base w h beats n a f run log-finds-kept loaded-stripe (w .engine .clock) refl inside logless free
+          fresh-keeps leader-beats ws base w h beats n a f run loaded-stripe (w .engine .clock) refl inside logless free
           (omega (arith, newer, by-clock)) by-clock (omega (arith, f .count))
           (subst (λ (m : ℕ). Loads-at ws (h .updaters) m (h .present n .work)) (f .count) (refresh-agrees ws base w h n f run valid))
           lost-keeps known e roomy (put (w .engine .threads) n (with-snapshot (thread-of (w .engine) n) (w .engine .clock)))
@@ -305,7 +304,7 @@ module _ (lost-keeps : Lost-keeps) (leader-beats : Leader-beats) (log-finds-kept
   -- the address is in the write log or not
   logged-keeps : thread-of (w .engine) n .phase ≡ Running → a < length (w .words) →
       (o : Option WriteEntry) → written (thread-of (w .engine) n) a ≡ o → Kept ws base w h beats (Load n a) (load-logged beats w n a o)
-  logged-keeps run inside (Some e) p = own-log-keeps leader-beats ws base w h beats n a f run log-finds-kept e p
+  logged-keeps run inside (Some e) p = own-log-keeps leader-beats ws base w h beats n a f run e p
   logged-keeps run inside None p =
       roomy-keeps run inside p (has-read (thread-of (w .engine) n) loaded-stripe) refl
       (not (has-read (thread-of (w .engine) n) loaded-stripe) && is-full (thread-of (w .engine) n .reads)) refl
@@ -323,6 +322,6 @@ module _ (lost-keeps : Lost-keeps) (leader-beats : Leader-beats) (log-finds-kept
   admitted-keeps (Ok x) p = placed-keeps (admitted-parts (w .engine) Loading n x p) (ltb a (length (w .words))) refl
 
 -- a load keeps everything, whatever it meets
-pub load-keeps : Lost-keeps → Leader-beats → Log-finds-kept → Load-keeps
-load-keeps lost-keeps leader-beats log-finds-kept ws base w h beats n a f =
-    admitted-keeps lost-keeps leader-beats log-finds-kept ws base w h beats n a f (admitted (w .engine) Loading n) refl
+pub load-keeps : Lost-keeps → Leader-beats → Load-keeps
+load-keeps lost-keeps leader-beats ws base w h beats n a f =
+    admitted-keeps lost-keeps leader-beats ws base w h beats n a f (admitted (w .engine) Loading n) refl

@@ -114,28 +114,3 @@ Invalid-excuses = (ws : List ℕ) (base : ℕ) (w : World) (h : History) (n s : 
     thread-of (w .engine) n .phase ≡ Running →
     first-invalid (w .engine) n (thread-of (w .engine) n .reads) ≡ Some s →
     Excused (w .engine .set-up) (h .updaters) (h .present n .work) (length (h .updaters)) (Invalid s)
-
--- the stored word of a stripe that no sealed thread holds, at a snapshot end that its version does not pass
-abbrev pub Free-word-agrees : Type 0
-Free-word-agrees = (ws : List ℕ) (base : ℕ) (w : World) (h : History) (a m : ℕ) → Fits ws base w h →
-    a < length (w .words) →
-    front (w .engine) (stripe-of (w .engine .set-up) a) .hold ≡ None →
-    base + stripe-at (w .engine) (stripe-of (w .engine .set-up) a) .version ≤ m → m ≤ length (h .updaters) →
-    getD (words-at ws (h .updaters) m) a 0 ≡ getD (w .words) a 0
-
--- one more updater, and an updater that drains once more: both only grow the updaters
-abbrev pub Push-grows : Type 0
-Push-grows = (ws : List ℕ) (us : List Work) (w : Work) → Grows ws us (us ++ w ∷ [])
-
-abbrev pub Drain-grows : Type 0
-Drain-grows = (ws : List ℕ) (us : List Work) (k n : ℕ) → k < length us → Grows ws us (set us k (called (Drain n) (updater us k)))
-
--- the serial run with one more updater, at one address
-abbrev pub Sealed-word : Type 0
-Sealed-word = (ws : List ℕ) (us : List Work) (w : Work) (a : ℕ) → a < length (serial-run ws us) →
-    getD (serial-run ws (us ++ w ∷ [])) a 0 ≡ getD (put-in (serial-run ws us) (write-log (w .calls))) a 0
-
--- what the write log finds for an address is the latest kept word
-abbrev pub Log-finds-kept : Type 0
-Log-finds-kept = (cs : List Call) (a : ℕ) →
-    first-with (λ e. e .address) a (write-log cs) ≡ first-with (λ e. e .address) a (kept cs)

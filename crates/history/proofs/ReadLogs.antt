@@ -10,8 +10,9 @@ use native.Mathlib.Omega.{arith}
 use Rattle.history.proofs.Holders.{free-hold, held-none-free}
 use Rattle.history.proofs.Invariant.{Fits, Hold, Mark-fits, Overtaken, front, left-of, stores-in, top, top-of}
 use Rattle.history.proofs.KeyedEntries.{all-both, keyed}
-use Rattle.history.proofs.Plan.{Free-word-agrees, Refresh-agrees, Invalid-excuses}
+use Rattle.history.proofs.Plan.{Refresh-agrees, Invalid-excuses}
 use Rattle.history.proofs.Running.{running-fits}
+use Rattle.history.proofs.SerialRuns.{since-moment}
 use Rattle.history.specs.Law.{updater, words-at}
 use Rattle.history.specs.Record.{History, Work}
 use Rattle.history.specs.Serial.{kept, loaded-on, moved-into, serial-run, put-in}
@@ -28,34 +29,6 @@ use Rattle.std.proofs.shelf.Tests.{and-parts, eq-eqb, eqb-false, eqb-true, and-
 use Rattle.std.specs.declared.option.Option.the-variants.{Some, None}
 use Rattle.std.specs.declared.option.Option.{Option}
 use Rattle.std.specs.shelf.Lists.{All}
-
-module _ (u : SetUp) (s a : ℕ) (here : stripe-of u a ≡ s) where
-  -- entries of other stripes that are moved in leave a word as it is
-  moved-elsewhere : (ws : List ℕ) (es : List WriteEntry) → has-key (λ e. stripe-of u (e .address)) s es ≡ false →
-      getD (moved-into ws es) a 0 ≡ getD ws a 0
-  moved-elsewhere ws [] k = refl
-  moved-elsewhere ws (x ∷ xs) k =
-      let p = or-parts (eqb (stripe-of u (x .address)) s) (has-key (λ (y : WriteEntry). stripe-of u (y .address)) s xs) k in
-      getD-set-other (moved-into ws xs) (x .address) a (x .word) 0
-      (λ q. eqb-false (stripe-of u (x .address)) s (p .0) (ap (stripe-of u) (sym q) ∙ here))
-      ∙ moved-elsewhere ws xs (p .1)
-
-  -- and so do updaters of which none stored in its stripe
-  run-elsewhere : (ws : List ℕ) (us : List Work) → ((k : ℕ) → k < length us → stores-in u s (updater us k) ≡ false) →
-      getD (serial-run ws us) a 0 ≡ getD ws a 0
-  run-elsewhere ws [] none = refl
-  run-elsewhere ws (w ∷ us) none =
-      run-elsewhere (moved-into ws (kept (w .calls))) us (λ k l. none (suc k) (omega arith))
-      ∙ moved-elsewhere ws (kept (w .calls)) (none 0 (omega arith))
-
-  -- so a word is what it was at a moment since which no updater stored in its stripe
-  since-moment : (ws : List ℕ) (us : List Work) (m : ℕ) →
-      ((k : ℕ) → m ≤ k → k < length us → stores-in u s (updater us k) ≡ false) →
-      getD (serial-run ws us) a 0 ≡ getD (words-at ws us m) a 0
-  since-moment ws us zero none = run-elsewhere ws us (λ k l. none k (omega arith) l)
-  since-moment ws [] (suc m) none = refl
-  since-moment ws (w ∷ us) (suc m) none =
-      since-moment (moved-into ws (kept (w .calls))) us m (λ k low high. none (suc k) (omega arith) (omega arith))
 
 module _ (ws : List ℕ) (base : ℕ) (w : World) (h : History) (f : Fits ws base w h) where
   -- the words of a stripe that is not held are those of every moment from its version on
@@ -74,7 +47,10 @@ module _ (ws : List ℕ) (base : ℕ) (w : World) (h : History) (f : Fits ws bas
       f .words a l ∙ ap (λ (x : Option Hold). getD (put-in (w .words) (left-of x)) a 0) free
 
 -- the stored word of such a stripe is what a transaction loads at a moment from its version on
-pub free-word-agrees : Free-word-agrees
+pub free-word-agrees : (ws : List ℕ) (base : ℕ) (w : World) (h : History) (a m : ℕ) → Fits ws base w h → a < length (w .words) →
+    front (w .engine) (stripe-of (w .engine .set-up) a) .hold ≡ None →
+    base + stripe-at (w .engine) (stripe-of (w .engine .set-up) a) .version ≤ m → m ≤ length (h .updaters) →
+    getD (words-at ws (h .updaters) m) a 0 ≡ getD (w .words) a 0
 free-word-agrees ws base w h a m f l free low high =
     sym (word-stays ws base w h f (stripe-of (w .engine .set-up) a) a m refl free low) ∙ word-stored ws base w h f a l free
 

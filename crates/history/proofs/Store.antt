@@ -12,8 +12,7 @@ use Rattle.contention.specs.Events.{Event, stripe-taken}
 use Rattle.history.proofs.GoingOn.{Left-or-beaten, Taken-by, goes-on-keeps}
 use Rattle.history.proofs.Holders.{free-hold}
 use Rattle.history.proofs.Invariant.{Fits, Front, Running-fits, front, stores-in}
-use Rattle.history.proofs.KeyedEntries.{grown-roomy, has-replaced, pushed-cases}
-use Rattle.history.proofs.Keys.{found-has}
+use Rattle.history.proofs.KeyedEntries.{found-has, grown-roomy, has-replaced, pushed-cases}
 use Rattle.history.proofs.Maps.{at-put-same, at-put-other}
 use Rattle.history.proofs.Phases.{Admitted, admitted-parts, running-phase}
 use Rattle.history.proofs.Plan.{Kept, Leader-beats, Lost-keeps, Store-keeps}

@@ -12,8 +12,10 @@ use Rattle.history.proofs.Fronts.{hold-none}
 use Rattle.history.proofs.Growth.{Grows, loads-grow, point-grows, points-grow, all-spared-grow}
 use Rattle.history.proofs.Invariant.{Fits, Front, Hold, Stripe-fits, Word-fits, Running-fits, Overtaken, Owns-log, Seat, Spent, front, hold-of, left-of, top, stores-in}
 use Rattle.history.proofs.Lines.{leads-at}
-use Rattle.history.proofs.Logs.{misses-unowned, unowned-unstored, sealed-word, push-grows, put-in-misses, put-in-same, serial-length}
+use Rattle.history.proofs.Logs.{misses-unowned, unowned-unstored}
 use Rattle.history.proofs.Plan.{Kept, then}
+use Rattle.history.proofs.PutIn.{put-in-misses, put-in-same}
+use Rattle.history.proofs.SerialRuns.{push-grows, sealed-word, serial-length}
 use Rattle.history.proofs.Seats.{Apart, seat-apart, seat-other, number-other}
 use Rattle.history.specs.Law.{updater, Loads-at, Spared}
 use Rattle.history.specs.Record.{History, Line, Transaction, Work, Fall, called-seal, with-work, watched, rewritten, no-work}
@@ -162,9 +164,9 @@ module _ (ws : List ℕ) (base : ℕ) (w : World) (h : History) (beats : Table) 
       Word-fits u ws more (w .words) (front after) a
   sealed-words a l (inl e) =
       let s = stripe-of u a in
-      sealed-word ws us (new-updater h n) a (omega (arith, serial-length ws us, f .sized))
-      ∙ put-in-same (serial-run ws us) (w .words) (write-log (mine .calls)) a
-      (serial-length ws us ∙ sym (f .sized))
+      let long : a < length (serial-run ws us) = omega (arith, serial-length ws us, f .sized) in
+      sealed-word ws us (new-updater h n) a long
+      ∙ put-in-same (serial-run ws us) (w .words) (write-log (mine .calls)) a long l
       (f .words a l ∙ ap (λ (o : Option Hold). getD (put-in (w .words) (left-of o)) a 0) (held-by-none s e))
       ∙ ap (λ (es : List WriteEntry). getD (put-in (w .words) es) a 0) (sym (run .log))
       ∙ ap (λ (x : Front). getD (put-in (w .words) (left-of (x .hold))) a 0) (sym (front-own s e))

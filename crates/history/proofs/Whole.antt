@@ -6,7 +6,6 @@ use Rattle.history.proofs.Holds.{fits-holds}
 use Rattle.history.proofs.Induction.{call-keeps, runs-are-lawful}
 use Rattle.history.proofs.Leaders.{leader-beats}
 use Rattle.history.proofs.Load.{load-keeps}
-use Rattle.history.proofs.Logs.{log-finds-kept}
 use Rattle.history.proofs.Losses.{lost-keeps}
 use Rattle.history.proofs.NewEngine.{new-fits}
 use Rattle.history.proofs.ReadLogs.{refresh-agrees, invalid-excuses}
@@ -18,6 +17,6 @@ use Rattle.history.specs.Runs.{Runs-are-lawful}
 pub lawful : Runs-are-lawful
 lawful =
     runs-are-lawful
-    (call-keeps begin-keeps (load-keeps lost-keeps leader-beats log-finds-kept) (store-keeps lost-keeps leader-beats)
+    (call-keeps begin-keeps (load-keeps lost-keeps leader-beats) (store-keeps lost-keeps leader-beats)
     (seal-keeps lost-keeps refresh-agrees invalid-excuses) drain-keeps back-keeps roll-keeps)
     fits-holds new-fits
