@@ -9,10 +9,10 @@ use native.Mathlib.Omega.{arith}
 use Rattle.common.specs.declared.refusal.Refusal.{Refusal}
 use Rattle.common.specs.declared.refusal.Refusal.the-variants.{RollPending}
 use Rattle.history.proofs.Alone.{alone-keeps}
-use Rattle.history.proofs.Fronts.{hold-none}
-use Rattle.history.proofs.Invariant.{Fits, Seat, front, hold-of}
+use Rattle.history.proofs.Holders.{hold-none}
+use Rattle.history.proofs.Invariant.{Fits, Seated, hold-of}
 use Rattle.history.proofs.Maps.{at-put-same, at-put-other}
-use Rattle.history.proofs.Phases.{Admitted, admitted-parts, fits-idle, idle-phase}
+use Rattle.history.proofs.Phases.{Admitted, admitted-parts, idle-fits, idle-phase, thread-not-zero}
 use Rattle.history.proofs.Plan.{Begin-keeps, Kept}
 use Rattle.history.proofs.Refusals.{refused-keeps}
 use Rattle.history.specs.Record.{History, fallen, newborn}
@@ -32,22 +32,14 @@ use Rattle.std.proofs.shelf.Tests.{and-parts, both-ways, leb-true}
 use Rattle.std.specs.declared.result.Result.{Result}
 use Rattle.std.specs.declared.result.Result.the-variants.{Ok, Err}
 
--- a thread of the set-up is not 0
-pub thread-not-zero : (u : SetUp) (n : ℕ) → is-thread u n ≡ true → n ≡ 0 → ⊥
-thread-not-zero u n e z = absurd (omega (arith, leb-true 1 n (and-parts (leb 1 n) (leb n (u .threads)) e .0)))
-
 module _ (ws : List ℕ) (base : ℕ) (w : World) (h : History) (beats : Table) (n : ℕ) (f : Fits ws base w h)
     (inside : is-thread (w .engine .set-up) n ≡ true) (idle : thread-of (w .engine) n .phase ≡ Idle) where
   -- an idle thread owns nothing
   owns-nothing : (s : ℕ) → owner-of (w .engine) s ≡ n → ⊥
-  owns-nothing s e =
-      thread-not-zero (w .engine .set-up) n inside
-      (fits-idle (w .engine .set-up) ws (h .updaters) base (front (w .engine)) (owner-of (w .engine)) n (thread-of (w .engine) n)
-      (h .present n .work) (h .present n .fall) (thread-of (w .engine) n .phase) idle (f .seats n .phase) s e)
+  owns-nothing s e = thread-not-zero (w .engine .set-up) n inside (idle-fits (f .seats n) idle s e)
 
   -- a transaction that has done nothing fits at the present moment
-  fresh-seat : Seat (w .engine .set-up) ws (h .updaters) base (front (w .engine)) (owner-of (w .engine)) n (fresh (w .engine .clock))
-      (newborn n (length (h .updaters)))
+  fresh-seat : Seated ws base w h (owner-of (w .engine)) n (fresh (w .engine .clock)) (newborn n (length (h .updaters)))
   fresh-seat = record {
     named = refl;
     inside = λ e. absurd (both-ways (is-thread (w .engine .set-up) n) e inside);
@@ -83,7 +75,8 @@ module _ (ws : List ℕ) (base : ℕ) (w : World) (h : History) (beats : Table) 
       (λ k d. at-put-other (w .engine .threads) n k (fresh (w .engine .clock)) d)
       (hold-none (thread-of (w .engine) n) Idle idle refl)
       (ap hold-of same) refl
-      (subst (λ (t : Thread). Seat (w .engine .set-up) ws (h .updaters) base (front (w .engine)) (owner-of (w .engine)) n t (fallen (length (h .updaters)) (newborn n (length (h .updaters))) (loss-in (t .phase))))
+      (subst (λ (t : Thread). Seated ws base w h (owner-of (w .engine)) n t
+      (fallen (length (h .updaters)) (newborn n (length (h .updaters))) (loss-in (t .phase))))
       (sym same) fresh-seat)
       (f .seats n .point, f .past-points) (f .seats n .spared, f .past-spared)
     where

@@ -1,25 +1,41 @@
--- Who holds a stripe, and what its front shows of that.
+-- Which threads hold stripes, and what the front of a stripe shows of that.
 use Prim.Native.Nat.{ℕ}
 use lib.Dec.{eqb}
+use lib.ListN.{drop}
 use mathlib.Core.Bool.{false, not}
 use mathlib.Core.List.{List}
 use mathlib.Core.Logic.{_⊎_, inl, inr}
-use mathlib.Core.Path.{_≡_, refl, ap, _∙_}
+use mathlib.Core.Path.{_≡_, refl, ap, sym, _∙_}
 use native.Mathlib.Omega.{arith}
-use Rattle.history.proofs.Invariant.{Fits, front, hold-in, hold-of}
-use Rattle.history.proofs.Fronts.{hold-none}
+use Rattle.history.proofs.Invariant.{Draining, Fits, front, hold-in, hold-of}
 use Rattle.history.specs.Record.{History}
 use Rattle.layout.specs.declared.entries.WriteEntry.{WriteEntry}
 use Rattle.rules.specs.Admission.{is-sealed}
 use Rattle.rules.specs.Conflicts.{busy, is-other, owner-of}
-use Rattle.rules.specs.States.{State, World, thread-of}
+use Rattle.rules.specs.Maps.{Map, at}
+use Rattle.rules.specs.States.{State, Stripe, Thread, World, stripe-at, thread-of}
 use Rattle.rules.specs.declared.phase.Phase.{Phase}
 use Rattle.rules.specs.declared.phase.Phase.the-variants.{Idle, Running, Sealed, Lost}
 use Rattle.std.proofs.shelf.Tests.{and-cases, and-right, eqb-true, not-false}
-use Rattle.std.specs.declared.option.Option.the-variants.{None}
+use Rattle.std.specs.declared.option.Option.the-variants.{Some, None}
+
+-- a thread in a phase that holds nothing
+pub hold-none : (t : Thread) (p : Phase) → t .phase ≡ p → hold-in (t .writes) p ≡ None → hold-of t ≡ None
+hold-none t p e h = ap (hold-in (t .writes)) e ∙ h
+
+-- stripes that are as they were show the same, if each thread holds as it held
+pub fronts-kept : (st st′ : State) → st′ .stripes ≡ st .stripes →
+    ((n : ℕ) → hold-of (thread-of st′ n) ≡ hold-of (thread-of st n)) → (s : ℕ) → front st′ s ≡ front st s
+fronts-kept st st′ e h s = λ i. record {
+  version = ap (λ (x : Stripe). x .version) (same s) i;
+  hold = (h (owner-of st′ s) ∙ ap (λ (x : Stripe). hold-of (thread-of st (x .owner))) (same s)) i;
+}
+  where
+    same : (k : ℕ) → stripe-at st′ k ≡ stripe-at st k
+    same k = ap (λ (m : Map Stripe). at m k) e
 
 -- a thread that is not sealed holds nothing
-pub hold-unsealed : (es : List WriteEntry) (p : Phase) → is-sealed p ≡ false → hold-in es p ≡ None
+hold-unsealed : (es : List WriteEntry) (p : Phase) → is-sealed p ≡ false → hold-in es p ≡ None
 hold-unsealed es Idle e = refl
 hold-unsealed es Running e = refl
 hold-unsealed es (Sealed t d) e = absurd (let z : _≡_ {A = ℕ} 0 1 = cc in omega arith)
@@ -41,7 +57,8 @@ module _ (ws : List ℕ) (base : ℕ) (w : World) (h : History) (n s : ℕ) (f :
       o : ℕ
       o = owner-of (w .engine) s
 
-      holds-at : (k : ℕ) → o ≡ k → (p : Phase) → thread-of (w .engine) k .phase ≡ p → hold-in (thread-of (w .engine) k .writes) p ≡ None → hold-of (thread-of (w .engine) o) ≡ None
+      holds-at : (k : ℕ) → o ≡ k → (p : Phase) → thread-of (w .engine) k .phase ≡ p → hold-in (thread-of (w .engine) k .writes) p ≡ None →
+          hold-of (thread-of (w .engine) o) ≡ None
       holds-at k e p q x = ap (λ (j : ℕ). hold-of (thread-of (w .engine) j)) e ∙ hold-none (thread-of (w .engine) k) p q x
 
       own : (not (eqb o 0) ≡ false) ⊎ (not (eqb o n) ≡ false) → hold-of (thread-of (w .engine) o) ≡ None
@@ -57,3 +74,26 @@ pub held-none-free : (st : State) (n s : ℕ) → front st s .hold ≡ None → 
 held-none-free st n s e =
     and-right (is-other n (owner-of st s)) (is-sealed (thread-of st (owner-of st s) .phase))
     (unsealed-hold (thread-of st (owner-of st s) .writes) (thread-of st (owner-of st s) .phase) e)
+
+-- a thread is sealed, or holds nothing
+pub sealed-or-free : (t : Thread) → ((k : ℕ) × (d : ℕ) × (t .phase ≡ Sealed k d)) ⊎ (hold-of t ≡ None)
+sealed-or-free t = go (t .phase) refl
+  where
+    go : (p : Phase) → t .phase ≡ p → ((k : ℕ) × (d : ℕ) × (t .phase ≡ Sealed k d)) ⊎ (hold-of t ≡ None)
+    go Idle e = inr (ap (hold-in (t .writes)) e)
+    go Running e = inr (ap (hold-in (t .writes)) e)
+    go (Sealed k d) e = inl (k, d, e)
+    go (Lost l) e = inr (ap (hold-in (t .writes)) e)
+
+-- how a sealed thread holds its stripes
+pub held-by : (st : State) (n ticket drained s : ℕ) → thread-of st n .phase ≡ Sealed ticket drained → owner-of st s ≡ n →
+    front st s .hold ≡ Some (record { ticket = ticket; left = drop drained (thread-of st n .writes) })
+held-by st n ticket drained s p e =
+    ap (λ (k : ℕ). hold-of (thread-of st k)) e ∙ ap (hold-in (thread-of st n .writes)) p
+
+-- a thread that holds nothing drains no updater
+pub free-not-draining : {st : State} {h : History} {k n : ℕ} (x : Draining st h k) → hold-of (thread-of st n) ≡ None → x .thread ≡ n → ⊥
+free-not-draining {st} {n = n} x free e =
+    let p : thread-of st n .phase ≡ Sealed (x .ticket) (x .drained) = ap (λ (j : ℕ). thread-of st j .phase) (sym e) ∙ x .sealed in
+    let q : hold-in (thread-of st n .writes) (Sealed (x .ticket) (x .drained)) ≡ None = ap (hold-in (thread-of st n .writes)) (sym p) ∙ free in
+    let z : _≡_ {A = ℕ} 0 1 = cc in omega arith

@@ -1,15 +1,15 @@
 -- From the invariant to the law.
 use Prim.Native.Nat.{ℕ, _<_}
 use lib.ListN.{length, getD, drop}
-use mathlib.Core.Bool.{Bool, true, false}
+use mathlib.Core.Bool.{true}
 use mathlib.Core.List.{List, []}
 use mathlib.Core.Logic.{_⊎_, inl, inr}
 use mathlib.Core.Path.{_≡_, refl, ap, sym, _∙_}
 use native.Mathlib.Omega.{arith}
-use Rattle.history.proofs.Alone.{free-not-sealed}
+use Rattle.history.proofs.Holders.{free-not-draining, sealed-or-free}
 use Rattle.history.proofs.Invariant.{Draining, Fits, Sealed-fits, Spent, front, hold-in, hold-of, left-in, left-of}
 use Rattle.history.proofs.KeyedEntries.{has-dropped, never-has}
-use Rattle.history.proofs.Phases.{fits-sealed}
+use Rattle.history.proofs.Phases.{sealed-fits}
 use Rattle.history.proofs.Plan.{Fits-holds}
 use Rattle.history.proofs.PutIn.{address-of, has-address, none-undrained, one-undrained, put-in-length}
 use Rattle.history.proofs.SerialRuns.{serial-length}
@@ -27,16 +27,6 @@ use Rattle.std.proofs.shelf.Tests.{both-ways}
 use Rattle.std.specs.declared.option.Option.{Option}
 use Rattle.std.specs.declared.option.Option.the-variants.{Some, None}
 
--- a thread is sealed, or holds nothing
-pub sealed-or-free : (t : Thread) → ((k : ℕ) × (d : ℕ) × (t .phase ≡ Sealed k d)) ⊎ (hold-of t ≡ None)
-sealed-or-free t = go (t .phase) refl
-  where
-    go : (p : Phase) → t .phase ≡ p → ((k : ℕ) × (d : ℕ) × (t .phase ≡ Sealed k d)) ⊎ (hold-of t ≡ None)
-    go Idle e = inr (ap (hold-in (t .writes)) e)
-    go Running e = inr (ap (hold-in (t .writes)) e)
-    go (Sealed k d) e = inl (k, d, e)
-    go (Lost l) e = inr (ap (hold-in (t .writes)) e)
-
 -- one transaction has one number
 one-number : (o : Option ℕ) (k p : ℕ) → o ≡ Some k → o ≡ Some p → k ≡ p
 one-number o k p e i = cc
@@ -48,9 +38,7 @@ module _ (ws : List ℕ) (base : ℕ) (w : World) (h : History) (f : Fits ws bas
       Sealed-fits (w .engine .set-up) (h .updaters) base (owner-of (w .engine)) n k d (thread-of (w .engine) n) (h .present n .work) (h .present n .fall)
 
   sealed-seat : (n k d : ℕ) → thread-of (w .engine) n .phase ≡ Sealed k d → Sealed-seat n k d
-  sealed-seat n k d e =
-      fits-sealed (w .engine .set-up) ws (h .updaters) base (front (w .engine)) (owner-of (w .engine)) n (thread-of (w .engine) n)
-      (h .present n .work) (h .present n .fall) (thread-of (w .engine) n .phase) k d e (f .seats n .phase)
+  sealed-seat n k d e = sealed-fits (f .seats n) k d e
 
   -- what a sealed thread has left to drain is what its updater has not drained
   left-undrained : (n k d : ℕ) (e : thread-of (w .engine) n .phase ≡ Sealed k d) →
@@ -113,9 +101,7 @@ module _ (ws : List ℕ) (base : ℕ) (w : World) (h : History) (f : Fits ws bas
       ∙ ap (λ o. getD (put-in (w .words) (left-of o)) a 0) (sym free)
     where
       nowhere : (i : ℕ) → (y : Draining (w .engine) h i) × (owner-at a ≡ y .thread) → ⊥
-      nowhere i y =
-          free-not-sealed (thread-of (w .engine) (owner-at a)) (y .0 .ticket) (y .0 .drained) free
-          (ap (λ (n : ℕ). thread-of (w .engine) n .phase) (y .1) ∙ y .0 .sealed)
+      nowhere i y = free-not-draining (y .0) free (sym (y .1))
 
   -- so it is at each address
   undrained-word : (a : ℕ) → a < length (w .words) → Holder-drains a

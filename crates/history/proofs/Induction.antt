@@ -1,9 +1,9 @@
 -- From what each call keeps to the law of every run.
 use Prim.Native.Nat.{ℕ}
 use mathlib.Core.List.{List, [], _∷_}
-use mathlib.Core.Path.{_≡_, refl, sym, subst, _∙_}
+use mathlib.Core.Path.{_≡_, refl, subst, _∙_}
 use Rattle.history.proofs.Invariant.{Fits}
-use Rattle.history.proofs.Plan.{Kept, New-fits, Begin-keeps, Load-keeps, Store-keeps, Seal-keeps, Drain-keeps, Back-keeps, Roll-keeps, Call-keeps, Fits-holds}
+use Rattle.history.proofs.Plan.{New-fits, Begin-keeps, Load-keeps, Store-keeps, Seal-keeps, Drain-keeps, Back-keeps, Roll-keeps, Call-keeps, Fits-holds}
 use Rattle.history.specs.Law.{Holds}
 use Rattle.history.specs.Record.{History, after-line, after-lines, no-history}
 use Rattle.history.specs.Runs.{Asked, Runs-are-lawful, line-of, recorded-from}
@@ -11,7 +11,6 @@ use Rattle.layout.specs.declared.set_up.SetUp.{SetUp}
 use Rattle.rules.specs.Calls.{perform}
 use Rattle.rules.specs.NewEngine.{new-world}
 use Rattle.rules.specs.States.{World}
-use Rattle.rules.specs.declared.call.Call.{Call}
 use Rattle.rules.specs.declared.call.Call.the-variants.{Begin, Load, Store, Seal, Drain, Back, Roll}
 
 pub call-keeps : Begin-keeps → Load-keeps → Store-keeps → Seal-keeps → Drain-keeps → Back-keeps → Roll-keeps → Call-keeps

@@ -5,8 +5,7 @@ use mathlib.Core.Bool.{Bool, true, false}
 use mathlib.Core.List.{List, []}
 use mathlib.Core.Logic.{_⊎_}
 use mathlib.Core.Path.{_≡_}
-use Rattle.common.specs.declared.loss.Loss.{Loss}
-use Rattle.history.specs.Law.{updater, words-at, Loads-at, Point, Spared, Stored-by-other}
+use Rattle.history.specs.Law.{updater, Loads-at, Point, Spared, Stored-by-other}
 use Rattle.history.specs.Record.{History, Transaction, Work, Fall}
 use Rattle.history.specs.Serial.{kept, loaded-on, serial-run, put-in, write-log, drain-count, not-drained}
 use Rattle.layout.specs.Lookups.{has-key}
@@ -149,6 +148,13 @@ pub record Seat (u : SetUp) (ws : List ℕ) (us : List Work) (base : ℕ) (fs : 
   pub point : Point ws us (x .work)
   pub spared : Spared u us (x .work) (x .fall)
 
+-- the same in a world and after a history, with these owners of the stripes
+abbrev pub Seated : List ℕ → ℕ → World → History → (ℕ → ℕ) → ℕ → Thread → Transaction → Type 0
+Seated ws base w h owner n t x = Seat (w .engine .set-up) ws (h .updaters) base (front (w .engine)) owner n t x
+
+abbrev pub Runs-on : List ℕ → ℕ → World → History → (ℕ → ℕ) → ℕ → Thread → Work → Option Fall → Type 0
+Runs-on ws base w h owner n t x f = Running-fits (w .engine .set-up) ws (h .updaters) base (front (w .engine)) owner n t x f
+
 -- an updater that has words to drain is the latest transaction of a sealed thread
 pub record Draining (st : State) (h : History) (k : ℕ) : Type 0 where
   pub thread : ℕ
@@ -167,7 +173,7 @@ pub record Fits (ws : List ℕ) (base : ℕ) (w : World) (h : History) : Type 0 
   pub count : length (h .updaters) ≡ base + w .engine .clock
   pub stripes : (s : ℕ) → Stripe-fits (w .engine .set-up) (h .updaters) base (w .engine .clock) s (front (w .engine) s)
   pub words : (a : ℕ) → a < length (w .words) → Word-fits (w .engine .set-up) ws (h .updaters) (w .words) (front (w .engine)) a
-  pub seats : (n : ℕ) → Seat (w .engine .set-up) ws (h .updaters) base (front (w .engine)) (owner-of (w .engine)) n (thread-of (w .engine) n) (h .present n)
+  pub seats : (n : ℕ) → Seated ws base w h (owner-of (w .engine)) n (thread-of (w .engine) n) (h .present n)
   pub spent : (k : ℕ) → k < length (h .updaters) → Spent (w .engine) h k
   pub loads : (k : ℕ) → k < length (h .updaters) → Loads-at ws (h .updaters) k (updater (h .updaters) k)
   pub past-points : All (λ t. Point ws (h .updaters) (t .work)) (h .past)

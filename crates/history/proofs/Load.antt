@@ -17,12 +17,11 @@ use Rattle.history.proofs.Invariant.{Fits, Front, Mark-fits, Running-fits, fro
 use Rattle.history.proofs.KeyedEntries.{found-has, grown-roomy, has-before, has-pushed}
 use Rattle.history.proofs.Logs.{log-finds-kept}
 use Rattle.history.proofs.Maps.{at-put-same, at-put-other}
-use Rattle.history.proofs.Phases.{Admitted, admitted-parts, running-phase}
+use Rattle.history.proofs.Phases.{Admitted, admitted-parts, running-fits, running-phase}
 use Rattle.history.proofs.Plan.{Kept, Leader-beats, Load-keeps, Lost-keeps}
 use Rattle.history.proofs.Quiet.{quiet-outcome}
 use Rattle.history.proofs.ReadLogs.{free-word-agrees, invalid-excuses, refresh-agrees}
 use Rattle.history.proofs.Refusals.{refused-keeps}
-use Rattle.history.proofs.Running.{running-fits}
 use Rattle.history.proofs.Wins.{Refreshed, Won, contend-keeps, threaded, won-then}
 use Rattle.history.specs.Law.{Loads-at, words-at}
 use Rattle.history.specs.Record.{History, Work, Fall, called-load}
@@ -109,7 +108,7 @@ module _ (leader-beats : Leader-beats) (ws : List ℕ) (base : ℕ) (w : World) 
         fits = subst (λ (t : Thread). Running-fits (w .engine .set-up) ws (h .updaters) base (front (w .engine)) (owner-of (w .engine)) n t
             (called-load (Load n a) (length (h .updaters)) v (h .present n .work)) (h .present n .fall)) (sym own)
             (answered-fits (w .engine .set-up) ws (h .updaters) base (front (w .engine)) (owner-of (w .engine)) n a v end
-            (thread-of (w .engine) n) (h .present n .work) (h .present n .fall) rs (running-fits ws base w h n f run) x);
+            (thread-of (w .engine) n) (h .present n .work) (h .present n .fall) rs (running-fits (f .seats n) run) x);
       })
 
   -- what the write log finds is what the transaction kept
@@ -117,7 +116,7 @@ module _ (leader-beats : Leader-beats) (ws : List ℕ) (base : ℕ) (w : World) 
       first-with (λ e. e .address) a (kept (h .present n .work .calls)) ≡ o
   finds-kept o e =
       sym (log-finds-kept (h .present n .work .calls) a)
-      ∙ ap (first-with (λ (y : WriteEntry). y .address) a) (sym (running-fits ws base w h n f run .log)) ∙ e
+      ∙ ap (first-with (λ (y : WriteEntry). y .address) a) (sym (running-fits (f .seats n) run .log)) ∙ e
 
   -- a load from the own log
   own-log-keeps : (e : WriteEntry) → written (thread-of (w .engine) n) a ≡ Some e →
@@ -137,7 +136,7 @@ module _ (leader-beats : Leader-beats) (ws : List ℕ) (base : ℕ) (w : World) 
     where
       r : Running-fits (w .engine .set-up) ws (h .updaters) base (front (w .engine)) (owner-of (w .engine)) n
           (thread-of (w .engine) n) (h .present n .work) (h .present n .fall)
-      r = running-fits ws base w h n f run
+      r = running-fits (f .seats n) run
 
   -- a load from a stripe that no sealed thread holds, at a snapshot end that its version does not pass
   module _ (s end : ℕ) (here : stripe-of (w .engine .set-up) a ≡ s) (inside : a < length (w .words))
@@ -155,7 +154,7 @@ module _ (leader-beats : Leader-beats) (ws : List ℕ) (base : ℕ) (w : World) 
     -- the marks stay, at a later snapshot end
     marks-later : All (λ e. Mark-fits (w .engine .set-up) (h .updaters) n (h .present n .work .begun) end (front (w .engine) (e .stripe)) e) (thread-of (w .engine) n .reads)
     marks-later =
-        all-weaker _ _ (λ e m. record { old = omega (arith, later, m .old); state = m .state }) (thread-of (w .engine) n .reads) (running-fits ws base w h n f run .marks)
+        all-weaker _ _ (λ e m. record { old = omega (arith, later, m .old); state = m .state }) (thread-of (w .engine) n .reads) (running-fits (f .seats n) run .marks)
 
     -- so the transaction is answered that word, if its read log has the stripe now
     answered-stored : (rs : List ReadMark) → has-key (λ e. e .stripe) s rs ≡ true →
@@ -230,7 +229,7 @@ module _ (lost-keeps : Lost-keeps) (leader-beats : Leader-beats)
     -- the transaction as it was
     r : Running-fits (w .engine .set-up) ws (h .updaters) base (front (w .engine)) (owner-of (w .engine)) n
         (thread-of (w .engine) n) (h .present n .work) (h .present n .fall)
-    r = running-fits ws base w h n f run
+    r = running-fits (f .seats n) run
 
     module _ (free : front (w .engine) loaded-stripe .hold ≡ None) where
       -- the stripe is not newer than the snapshot end

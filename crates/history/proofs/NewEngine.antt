@@ -1,19 +1,17 @@
 -- A new engine fits a history with no line.
-use Prim.Native.Nat.{ℕ, _<_}
-use lib.ListN.{length}
+use Prim.Native.Nat.{ℕ}
 use mathlib.Core.List.{List, []}
 use mathlib.Core.Path.{_≡_, refl, ap, sym, subst, _∙_, fun-ext}
 use native.Mathlib.Omega.{arith}
-use Rattle.history.proofs.Invariant.{Fits, Front, Stripe-fits, Word-fits, Seat, front, hold-of}
+use Rattle.history.proofs.Invariant.{Front, Stripe-fits, Word-fits, Seat, front, hold-of}
 use Rattle.history.proofs.Maps.{at-everywhere}
 use Rattle.history.proofs.Plan.{New-fits}
-use Rattle.history.specs.Law.{Point}
-use Rattle.history.specs.Record.{no-history, newborn, no-work}
+use Rattle.history.specs.Record.{newborn}
 use Rattle.layout.specs.declared.set_up.SetUp.{SetUp}
 use Rattle.rules.specs.Conflicts.{owner-of}
-use Rattle.rules.specs.NewEngine.{new-world, new-engine, new-thread, new-stripe}
-use Rattle.rules.specs.States.{Thread, Stripe, thread-of, stripe-at}
-use Rattle.std.specs.declared.option.Option.the-variants.{Some, None}
+use Rattle.rules.specs.NewEngine.{new-engine, new-thread, new-stripe}
+use Rattle.rules.specs.States.{Thread, Stripe}
+use Rattle.std.specs.declared.option.Option.the-variants.{None}
 
 abbrev new-front : Front
 new-front = record { version = 0; hold = None }

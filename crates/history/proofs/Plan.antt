@@ -1,19 +1,15 @@
 -- What each call keeps, as statements; each is proved in the file that is named for its call.
-use Prim.Native.Nat.{ℕ, _+_, _<_, _≤_}
-use lib.ListN.{length, getD, set}
+use Prim.Native.Nat.{ℕ, _≤_}
+use lib.ListN.{length}
 use mathlib.Core.Bool.{Bool, true, false}
-use mathlib.Core.List.{List, [], _∷_, _++_}
+use mathlib.Core.List.{List}
 use mathlib.Core.Path.{_≡_}
 use Rattle.common.specs.declared.loss.Loss.{Loss}
 use Rattle.common.specs.declared.loss.Loss.the-variants.{Invalid}
-use Rattle.history.proofs.Growth.{Grows}
-use Rattle.history.proofs.Invariant.{Fits, front}
-use Rattle.history.specs.Law.{Holds, Excused, Loads-at, updater, words-at}
-use Rattle.history.specs.Record.{History, Work, after-line, called, caller, leads, no-history}
+use Rattle.history.proofs.Invariant.{Fits}
+use Rattle.history.specs.Law.{Holds, Excused, Loads-at}
+use Rattle.history.specs.Record.{History, after-line, caller, leads, no-history}
 use Rattle.history.specs.Runs.{line-of}
-use Rattle.history.specs.Serial.{kept, put-in, serial-run, write-log}
-use Rattle.layout.specs.Lookups.{first-with}
-use Rattle.layout.specs.SetUps.{stripe-of}
 use Rattle.layout.specs.declared.set_up.SetUp.{SetUp}
 use Rattle.rules.specs.Back.{back}
 use Rattle.rules.specs.Begin.{begin}
@@ -26,7 +22,7 @@ use Rattle.rules.specs.NewEngine.{new-world}
 use Rattle.rules.specs.Outcomes.{Outcome, Table, lost}
 use Rattle.rules.specs.Roll.{roll}
 use Rattle.rules.specs.Seal.{seal}
-use Rattle.rules.specs.States.{World, Thread, thread-of, stripe-at}
+use Rattle.rules.specs.States.{World, Thread, thread-of}
 use Rattle.rules.specs.Store.{store}
 use Rattle.rules.specs.declared.call.Call.{Call}
 use Rattle.rules.specs.declared.call.Call.the-variants.{Begin, Load, Store, Seal, Drain, Back, Roll}

@@ -15,7 +15,7 @@ use Rattle.layout.specs.declared.entries.WriteEntry.{WriteEntry}
 use Rattle.std.proofs.shelf.Lists.{getD-set-other, getD-set-same, length-set}
 use Rattle.std.proofs.shelf.Tests.{eqb-false, eqb-true, or-parts}
 use Rattle.std.specs.declared.option.Option.{Option}
-use Rattle.std.specs.declared.option.Option.the-variants.{Some, None}
+use Rattle.std.specs.declared.option.Option.the-variants.{Some}
 
 -- the address of an entry
 abbrev pub address-of : WriteEntry → ℕ

@@ -3,13 +3,13 @@ use Prim.Native.Nat.{ℕ, _<_}
 use lib.ListN.{length}
 use mathlib.Core.Bool.{Bool}
 use mathlib.Core.List.{List, []}
-use mathlib.Core.Logic.{_⊎_, inl, inr}
+use mathlib.Core.Logic.{inl, inr}
 use mathlib.Core.Path.{_≡_, refl, ap, sym, subst, _∙_, fun-ext}
 use Rattle.contention.specs.Events.{Event}
-use Rattle.history.proofs.Invariant.{Fits, Front, front, Stripe-fits, Word-fits, Seat, Draining, Spent}
+use Rattle.history.proofs.Invariant.{Fits, Front, front, Stripe-fits, Word-fits, Seat, Seated, Draining, Spent}
 use Rattle.history.proofs.Plan.{Kept, then}
 use Rattle.history.specs.Law.{updater, Loads-at, Point, Spared}
-use Rattle.history.specs.Record.{History, Transaction, Work}
+use Rattle.history.specs.Record.{History, Work}
 use Rattle.history.specs.Serial.{not-drained}
 use Rattle.layout.specs.declared.set_up.SetUp.{SetUp}
 use Rattle.rules.specs.Conflicts.{owner-of}
@@ -31,7 +31,7 @@ quiet-outcome w a es st = record { answer = a; told = es; after = over w st }
 pub record Quiet (ws : List ℕ) (base : ℕ) (w : World) (h : History) (st : State) (g : History) : Type 0 where
   pub fronts : (s : ℕ) → front st s ≡ front (w .engine) s
   pub updaters : g .updaters ≡ h .updaters
-  pub seats : (n : ℕ) → Seat (w .engine .set-up) ws (h .updaters) base (front (w .engine)) (owner-of st) n (thread-of st n) (g .present n)
+  pub seats : (n : ℕ) → Seated ws base w h (owner-of st) n (thread-of st n) (g .present n)
   pub drains : (k : ℕ) → Draining (w .engine) h k → Draining st g k
   pub past-points : All (λ t. Point ws (h .updaters) (t .work)) (g .past)
   pub past-spared : All (λ t. Spared (w .engine .set-up) (h .updaters) (t .work) (t .fall)) (g .past)

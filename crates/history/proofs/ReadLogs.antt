@@ -1,5 +1,5 @@
 -- What a read log says of the words at other moments.
-use Prim.Native.Nat.{ℕ, zero, suc, _+_, _<_, _≤_}
+use Prim.Native.Nat.{ℕ, _+_, _<_, _≤_}
 use lib.Dec.{eqb}
 use lib.ListN.{length, getD}
 use mathlib.Core.Bool.{Bool, true, false, cond, not}
@@ -8,24 +8,21 @@ use mathlib.Core.Logic.{_⊎_, inl, inr}
 use mathlib.Core.Path.{_≡_, refl, ap, sym, subst, _∙_}
 use native.Mathlib.Omega.{arith}
 use Rattle.history.proofs.Holders.{free-hold, held-none-free}
-use Rattle.history.proofs.Invariant.{Fits, Hold, Mark-fits, Overtaken, front, left-of, stores-in, top, top-of}
+use Rattle.history.proofs.Invariant.{Fits, Hold, Mark-fits, Overtaken, front, left-of, top, top-of}
 use Rattle.history.proofs.KeyedEntries.{all-both, keyed}
+use Rattle.history.proofs.Phases.{running-fits}
 use Rattle.history.proofs.Plan.{Refresh-agrees, Invalid-excuses}
-use Rattle.history.proofs.Running.{running-fits}
 use Rattle.history.proofs.SerialRuns.{since-moment}
-use Rattle.history.specs.Law.{updater, words-at}
+use Rattle.history.specs.Law.{words-at}
 use Rattle.history.specs.Record.{History, Work}
-use Rattle.history.specs.Serial.{kept, loaded-on, moved-into, serial-run, put-in}
-use Rattle.layout.specs.Lookups.{has-key}
+use Rattle.history.specs.Serial.{loaded-on, serial-run, put-in}
 use Rattle.layout.specs.SetUps.{stripe-of}
-use Rattle.layout.specs.declared.entries.WriteEntry.{WriteEntry}
-use Rattle.layout.specs.declared.set_up.SetUp.{SetUp}
 use Rattle.rules.specs.Conflicts.{busy, first-invalid, is-valid}
 use Rattle.rules.specs.States.{State, World, ReadMark, thread-of, stripe-at}
 use Rattle.rules.specs.declared.phase.Phase.the-variants.{Running}
 use Rattle.std.proofs.shelf.Elements.{all-weaker}
-use Rattle.std.proofs.shelf.Lists.{getD-set-other, take-all}
-use Rattle.std.proofs.shelf.Tests.{and-parts, eq-eqb, eqb-false, eqb-true, and-from, both-ways, not-true, not-from-false, or-parts}
+use Rattle.std.proofs.shelf.Lists.{take-all}
+use Rattle.std.proofs.shelf.Tests.{and-parts, eq-eqb, eqb-true, and-from, both-ways, not-true, not-from-false}
 use Rattle.std.specs.declared.option.Option.the-variants.{Some, None}
 use Rattle.std.specs.declared.option.Option.{Option}
 use Rattle.std.specs.shelf.Lists.{All}
@@ -97,10 +94,10 @@ module _ (ws : List ℕ) (base : ℕ) (w : World) (h : History) (n : ℕ) (f : F
   present-loads : All (λ e. is-valid (w .engine) n e ≡ true) (thread-of (w .engine) n .reads) →
       loaded-on (serial-run ws (h .updaters)) (h .present n .work .calls) ≡ h .present n .work .loaded
   present-loads valid =
-      running-fits ws base w h n f run .covered
+      running-fits (f .seats n) run .covered
       (serial-run ws (h .updaters)) (words-at ws (h .updaters) (base + thread-of (w .engine) n .snapshot))
       (λ a has. agrees a (keyed (λ (e : ReadMark). e .stripe) (stripe-of (w .engine .set-up) a) Valid-old (thread-of (w .engine) n .reads) old has))
-      ∙ running-fits ws base w h n f run .loads
+      ∙ running-fits (f .seats n) run .loads
     where
       agrees : (a : ℕ) → (e : ReadMark) × (e .stripe ≡ stripe-of (w .engine .set-up) a) × Valid-old e →
           getD (serial-run ws (h .updaters)) a 0 ≡ getD (words-at ws (h .updaters) (base + thread-of (w .engine) n .snapshot)) a 0
@@ -109,7 +106,7 @@ module _ (ws : List ℕ) (base : ℕ) (w : World) (h : History) (n : ℕ) (f : F
       old : All Valid-old (thread-of (w .engine) n .reads)
       old =
           all-both (λ e. is-valid (w .engine) n e ≡ true) (λ e. e .version ≤ thread-of (w .engine) n .snapshot) (thread-of (w .engine) n .reads) valid
-          (all-weaker _ _ (λ e m. m .old) (thread-of (w .engine) n .reads) (running-fits ws base w h n f run .marks))
+          (all-weaker _ _ (λ e m. m .old) (thread-of (w .engine) n .reads) (running-fits (f .seats n) run .marks))
 
   -- an entry that is no longer as it was read was overtaken
   invalid-overtaken : (e : ReadMark) → is-valid (w .engine) n e ≡ false →
@@ -137,7 +134,7 @@ pub invalid-excuses : Invalid-excuses
 invalid-excuses ws base w h n s f run some =
     let x = invalid-entry (w .engine) n s
     (λ e. Mark-fits (w .engine .set-up) (h .updaters) n (h .present n .work .begun) (thread-of (w .engine) n .snapshot) (front (w .engine) (e .stripe)) e)
-    (thread-of (w .engine) n .reads) (running-fits ws base w h n f run .marks) some in
+    (thread-of (w .engine) n .reads) (running-fits (f .seats n) run .marks) some in
     subst (λ (t : ℕ). Overtaken (w .engine .set-up) (h .updaters) t (h .present n .work .begun) s) (sym (f .seats n .named))
     (subst (λ (t : ℕ). Overtaken (w .engine .set-up) (h .updaters) n (h .present n .work .begun) t) (x .1)
     (invalid-overtaken ws base w h n f run (x .0) (x .2) (x .3)))

@@ -8,12 +8,11 @@ use mathlib.Core.Logic.{_⊎_, inl, inr}
 use mathlib.Core.Path.{_≡_, refl, ap, sym, subst, _∙_, fun-ext}
 use native.Mathlib.Omega.{arith}
 use Rattle.common.specs.declared.refusal.Refusal.the-variants.{RollNotDue, ThreadsActive}
-use Rattle.history.proofs.Alone.{free-not-sealed}
-use Rattle.history.proofs.Fronts.{hold-none}
+use Rattle.history.proofs.Holders.{free-not-draining, hold-none}
 use Rattle.history.proofs.Invariant.{Fits, Front, Phase-fits, Seat, Spent, Stripe-fits, Word-fits, front, hold-of, left-of}
 use Rattle.history.proofs.Lines.{leads-at, present-caller}
 use Rattle.history.proofs.Maps.{at-each}
-use Rattle.history.proofs.Phases.{fits-idle, idle-phase}
+use Rattle.history.proofs.Phases.{idle-fits, idle-phase}
 use Rattle.history.proofs.Plan.{Kept, Roll-keeps, then}
 use Rattle.history.proofs.Refusals.{refused-keeps}
 use Rattle.history.proofs.Seats.{seat-other, seat-watched}
@@ -86,46 +85,43 @@ module _ (ws : List ℕ) (base : ℕ) (w : World) (h : History) (beats : Table) 
 
   -- a thread's seat after the roll
   abbrev Rolled-seat : ℕ → Transaction → Type 0
-  Rolled-seat n x = Seat (w .engine .set-up) ws (h .updaters) (length (h .updaters)) (front (rolled (w .engine))) (owner-of (rolled (w .engine))) n (thread-of (w .engine) n) x
+  Rolled-seat n x =
+      Seat (w .engine .set-up) ws (h .updaters) (length (h .updaters)) (front (rolled (w .engine))) (owner-of (rolled (w .engine))) n
+      (thread-of (w .engine) n) x
 
   -- an idle thread's seat does not depend on the moment of the last roll
-  rolled-idle-seat : (n : ℕ) →
-      Rolled-seat n (h .present n)
+  rolled-idle-seat : (n : ℕ) → Rolled-seat n (h .present n)
   rolled-idle-seat n = record {
     named = f .seats n .named;
     inside = f .seats n .inside;
     phase =
-        subst (λ (p : Phase). Phase-fits (w .engine .set-up) ws (h .updaters) (length (h .updaters)) (front (rolled (w .engine))) (owner-of (rolled (w .engine))) n (thread-of (w .engine) n) (h .present n .work) (h .present n .fall) p)
-        (sym (all-idle n))
-        (λ s e.
-        fits-idle (w .engine .set-up) ws (h .updaters) base (front (w .engine)) (owner-of (w .engine)) n (thread-of (w .engine) n)
-        (h .present n .work) (h .present n .fall) (thread-of (w .engine) n .phase) (all-idle n) (f .seats n .phase) s (sym (rolled-owner s) ∙ e));
+        subst (λ (p : Phase). Phase-fits (w .engine .set-up) ws (h .updaters) (length (h .updaters)) (front (rolled (w .engine)))
+        (owner-of (rolled (w .engine))) n (thread-of (w .engine) n) (h .present n .work) (h .present n .fall) p)
+        (sym (all-idle n)) (λ s e. idle-fits (f .seats n) (all-idle n) s (sym (rolled-owner s) ∙ e));
     point = f .seats n .point;
     spared = f .seats n .spared;
   }
 
   -- the roll does nothing to any transaction
-  rolled-seat : (n : ℕ) → (n ≡ 0) ⊎ (n ≡ 0 → ⊥) →
-      Rolled-seat n (rolled-history .present n)
+  rolled-seat : (n : ℕ) → (n ≡ 0) ⊎ (n ≡ 0 → ⊥) → Rolled-seat n (rolled-history .present n)
   rolled-seat n (inl e) =
       subst (λ (y : Transaction). Rolled-seat n y)
       (sym (present-caller (w .engine .set-up) h rolled-line n e))
-      (seat-watched (w .engine .set-up) ws (h .updaters) (length (h .updaters)) (front (rolled (w .engine))) (owner-of (rolled (w .engine))) n (thread-of (w .engine) n)
-      (length (h .updaters)) (leads-at (w .engine .set-up) rolled-line n) (h .present n) (rolled-idle-seat n))
+      (seat-watched (length (h .updaters)) (leads-at (w .engine .set-up) rolled-line n) (h .present n) (rolled-idle-seat n))
   rolled-seat n (inr d) =
-      seat-other (w .engine .set-up) ws (length (h .updaters)) (front (rolled (w .engine))) (owner-of (rolled (w .engine))) h rolled-line n
-      (thread-of (w .engine) n) d refl (h .updaters) (rolled-idle-seat n)
+      seat-other h rolled-line d refl (rolled-idle-seat n)
 
   -- nothing is left to drain, so the stored words are the serial run's
   rolled-word : (a : ℕ) → a < length (w .words) → Word-fits (w .engine .set-up) ws (h .updaters) (w .words) (front (rolled (w .engine))) a
   rolled-word a l =
       subst (λ (fs : ℕ → Front). Word-fits (w .engine .set-up) ws (h .updaters) (w .words) fs a) (sym (fun-ext rolled-fronts))
-      (f .words a l ∙ ap (λ o. getD (put-in (w .words) (left-of o)) a 0) (all-free (owner-of (w .engine) (stripe-of (w .engine .set-up) a))))
+      (f .words a l
+      ∙ ap (λ o. getD (put-in (w .words) (left-of o)) a 0) (all-free (owner-of (w .engine) (stripe-of (w .engine .set-up) a))))
 
   -- no updater has words to drain
   rolled-spent : (k : ℕ) → Spent (w .engine) h k → Spent (rolled (w .engine)) rolled-history k
   rolled-spent k (inl e) = inl e
-  rolled-spent k (inr x) = absurd (free-not-sealed (thread-of (w .engine) (x .thread)) (x .ticket) (x .drained) (all-free (x .thread)) (x .sealed))
+  rolled-spent k (inr x) = absurd (free-not-draining x (all-free (x .thread)) refl)
 
   -- a roll that is not refused keeps the invariant
   roll-rolls : Kept ws (length (h .updaters)) w h beats Roll (roll-idle w true)

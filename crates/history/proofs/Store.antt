@@ -14,11 +14,10 @@ use Rattle.history.proofs.Holders.{free-hold}
 use Rattle.history.proofs.Invariant.{Fits, Front, Running-fits, front, stores-in}
 use Rattle.history.proofs.KeyedEntries.{found-has, grown-roomy, has-replaced, pushed-cases}
 use Rattle.history.proofs.Maps.{at-put-same, at-put-other}
-use Rattle.history.proofs.Phases.{Admitted, admitted-parts, running-phase}
+use Rattle.history.proofs.Phases.{Admitted, admitted-parts, running-fits, running-phase}
 use Rattle.history.proofs.Plan.{Kept, Leader-beats, Lost-keeps, Store-keeps}
 use Rattle.history.proofs.Quiet.{quiet-outcome, quiet-state}
 use Rattle.history.proofs.Refusals.{refused-keeps}
-use Rattle.history.proofs.Running.{running-fits}
 use Rattle.history.proofs.Wins.{Won, contend-keeps, threaded, won-then}
 use Rattle.history.specs.Record.{History, Work, Fall, called}
 use Rattle.history.specs.Serial.{write-log}
@@ -101,14 +100,14 @@ module _ (leader-beats : Leader-beats) (ws : List ℕ) (base : ℕ) (w : World) 
         fits = subst (λ (t : Thread). Running-fits (w .engine .set-up) ws (h .updaters) base (front (w .engine)) (λ s. at ss s .owner) n t
             (called (Store n a v) (h .present n .work)) (h .present n .fall)) (sym own)
             (logged-fits (w .engine .set-up) ws (h .updaters) base (front (w .engine)) (owner-of (w .engine)) (λ s. at ss s .owner) n a v
-            (thread-of (w .engine) n) (h .present n .work) (h .present n .fall) log (running-fits ws base w h n f run) x);
+            (thread-of (w .engine) n) (h .present n .work) (h .present n .fall) log (running-fits (f .seats n) run) x);
       })
 
   -- whether the address is logged is whether it was stored to
   logged-before : (b : Bool) → has-written (thread-of (w .engine) n) a ≡ b →
       has-key (λ e. e .address) a (write-log (h .present n .work .calls)) ≡ b
   logged-before b e =
-      ap (has-key (λ (y : WriteEntry). y .address) a) (sym (running-fits ws base w h n f run .log))
+      ap (has-key (λ (y : WriteEntry). y .address) a) (sym (running-fits (f .seats n) run .log))
       ∙ sym (found-has (λ (y : WriteEntry). y .address) a (thread-of (w .engine) n .writes)) ∙ e
 
   -- a store to an address that is logged
@@ -120,12 +119,12 @@ module _ (leader-beats : Leader-beats) (ws : List ℕ) (base : ℕ) (w : World) 
       (λ s. inl refl)
       (record {
         log =
-            ap (replaced (λ (y : WriteEntry). y .address) (entry a v)) (running-fits ws base w h n f run .log)
+            ap (replaced (λ (y : WriteEntry). y .address) (entry a v)) (running-fits (f .seats n) run .log)
             ∙ sym (cond-true _ _ _ (logged-before true has));
         keys = λ b key. inl (sym (has-replaced (λ (y : WriteEntry). y .address) b (entry a v) (thread-of (w .engine) n .writes)) ∙ key);
         keeps = λ s o. o;
         gains = λ s o. inl o;
-        owned = running-fits ws base w h n f run .owns-log a (sym (found-has (λ (y : WriteEntry). y .address) a (thread-of (w .engine) n .writes)) ∙ has);
+        owned = running-fits (f .seats n) run .owns-log a (sym (found-has (λ (y : WriteEntry). y .address) a (thread-of (w .engine) n .writes)) ∙ has);
       })
     where
       log : List WriteEntry
@@ -160,7 +159,7 @@ module _ (leader-beats : Leader-beats) (ws : List ℕ) (base : ℕ) (w : World) 
         Logged (w .engine .set-up) (owner-of (w .engine)) owner′ n a v (thread-of (w .engine) n) (h .present n .work) longer
     log-noted owner′ keeps gains owned = record {
       log =
-          ap (λ (es : List WriteEntry). es ++ entry a v ∷ []) (running-fits ws base w h n f run .log)
+          ap (λ (es : List WriteEntry). es ++ entry a v ∷ []) (running-fits (f .seats n) run .log)
           ∙ sym (cond-false _ _ _ (logged-before false fresh));
       keys = λ b key. pushed-cases (λ (y : WriteEntry). y .address) b (thread-of (w .engine) n .writes) (entry a v) key;
       keeps = keeps;

@@ -3,7 +3,7 @@ use Prim.Native.Nat.{ℕ, _+_, _<_, _≤_}
 use lib.ListN.{length, getD, set, take, drop}
 use lib.Seq.{drop-set-lt}
 use mathlib.Core.List.{List, [], _∷_, _++_, map, append-assoc, append-nil}
-use mathlib.Core.Path.{_≡_, refl, sym, ap, subst, _∙_}
+use mathlib.Core.Path.{_≡_, sym, ap, _∙_}
 use native.Mathlib.Omega.{arith}
 use Rattle.contention.specs.Events.{Event, after-events}
 use Rattle.history.specs.Record.{Line}
@@ -13,7 +13,6 @@ use Rattle.history.specs.declared.turn.Turn.{Turn}
 use Rattle.rules.specs.Calls.{perform}
 use Rattle.rules.specs.Outcomes.{Table}
 use Rattle.rules.specs.States.{World}
-use Rattle.rules.specs.declared.call.Call.{Call}
 use Rattle.std.proofs.shelf.Lists.{drop-more, drop-all, take-all, take-more-set}
 
 module _ {P : Type 0} (table : P → Table) (moved : P → Event → P) where

@@ -12,10 +12,9 @@ use Rattle.contention.specs.Events.{Event, win-over}
 use Rattle.history.proofs.GoingOn.{Left-or-beaten}
 use Rattle.history.proofs.Invariant.{Fits}
 use Rattle.history.proofs.Maps.{at-put-same, at-put-other}
-use Rattle.history.proofs.Phases.{running-phase}
+use Rattle.history.proofs.Phases.{running-inside, running-phase, thread-not-zero}
 use Rattle.history.proofs.Plan.{Kept, Leader-beats, Lost-keeps}
 use Rattle.history.proofs.Quiet.{quiet-state}
-use Rattle.history.proofs.Running.{running-member}
 use Rattle.history.specs.Record.{History, caller, leads}
 use Rattle.rules.specs.Admission.{is-running, is-thread}
 use Rattle.rules.specs.Conflicts.{clash, contend, contended, is-other, owner-of, rival}
@@ -100,7 +99,7 @@ module _ (ws : List ℕ) (base : ℕ) (w : World) (h : History) (beats : Table) 
   nobody-idle : at ts 0 .phase ≡ Idle
   nobody-idle =
       ap (λ (t : Thread). t .phase)
-      (r .others 0 (λ e. both-ways (is-thread (w .engine .set-up) n) (ap (is-thread (w .engine .set-up)) (sym e)) (running-member ws base w h n f run)))
+      (r .others 0 (λ e. thread-not-zero (w .engine .set-up) n (running-inside (f .seats n) run) (sym e)))
       ∙ f .seats 0 .inside refl
 
   -- a stripe with no rival is won
@@ -145,7 +144,7 @@ module _ (lost-keeps : Lost-keeps) (leader-beats : Leader-beats) (ws : List ℕ)
       leads beats (caller c) (w .engine .set-up .threads) ≡ true → ⊥
   leader-wins k x beaten led =
       let k-ran : thread-of (w .engine) k .phase ≡ Running = ap (λ (t : Thread). t .phase) (sym (r .others k (x .other))) ∙ x .running in
-      let p = and-parts (leb 1 k) (leb k (w .engine .set-up .threads)) (running-member ws base w h k f k-ran) in
+      let p = and-parts (leb 1 k) (leb k (w .engine .set-up .threads)) (running-inside (f .seats k) k-ran) in
       both-ways (beats (caller c) k) beaten
       (leader-beats beats (caller c) k (w .engine .set-up .threads) led (leb-true 1 k (p .0)) (leb-true k (w .engine .set-up .threads) (p .1)) (x .other) .0)
 
