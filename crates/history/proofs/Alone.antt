@@ -5,7 +5,6 @@ use mathlib.Core.Bool.{Bool}
 use mathlib.Core.List.{List}
 use mathlib.Core.Logic.{_⊎_, inl, inr}
 use mathlib.Core.Path.{_≡_, refl, ap, sym, subst, _∙_}
-use native.Mathlib.Omega.{arith}
 use Rattle.contention.specs.Events.{Event}
 use Rattle.history.proofs.Holders.{free-not-draining, fronts-kept}
 use Rattle.history.proofs.Invariant.{Draining, Fits, Seated, front, hold-of}
@@ -14,7 +13,7 @@ use Rattle.history.proofs.Plan.{Kept, then}
 use Rattle.history.proofs.Quiet.{quiet-keeps, quiet-outcome, quiet-state}
 use Rattle.history.proofs.Seats.{draining-on, seat-other}
 use Rattle.history.specs.Law.{Point, Spared}
-use Rattle.history.specs.Record.{History, Line, Transaction, Work, acted, caller, deed, fallen, leads, or-else, told-loss, watched}
+use Rattle.history.specs.Record.{History, Line, Transaction, acted, caller, deed, fallen, leads, or-else, told-loss, watched}
 use Rattle.history.specs.Runs.{line-of, loss-in}
 use Rattle.rules.specs.Conflicts.{owner-of}
 use Rattle.rules.specs.Maps.{Map, at}
@@ -22,7 +21,6 @@ use Rattle.rules.specs.Outcomes.{Table}
 use Rattle.rules.specs.States.{State, World, Stripe, Thread, thread-of}
 use Rattle.rules.specs.declared.answer.Answer.{Answer}
 use Rattle.rules.specs.declared.call.Call.{Call}
-use Rattle.rules.specs.declared.phase.Phase.the-variants.{Sealed}
 use Rattle.std.proofs.shelf.Tests.{cases-eq}
 use Rattle.std.specs.declared.option.Option.the-variants.{None}
 use Rattle.std.specs.shelf.Lists.{All}

@@ -20,7 +20,7 @@ use Rattle.history.proofs.Plan.{Back-keeps, Kept}
 use Rattle.history.proofs.Refusals.{refused-keeps}
 use Rattle.history.proofs.Releases.{released-own, released-other, released-keeps, released-gains, released-nothing}
 use Rattle.history.proofs.Seats.{seat-apart}
-use Rattle.history.specs.Law.{Excused, Point, Spared}
+use Rattle.history.specs.Law.{Excused, Spared}
 use Rattle.history.specs.Record.{History, Transaction, Work, Fall, called, ended-loss, fallen, leads, or-else, rewritten, watched, with-work}
 use Rattle.history.specs.Runs.{loss-in}
 use Rattle.layout.specs.declared.set_up.SetUp.{SetUp}

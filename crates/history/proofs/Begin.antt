@@ -1,6 +1,5 @@
 -- What a begin keeps.
 use Prim.Native.Nat.{ℕ}
-use lib.Dec.{leb}
 use lib.ListN.{length}
 use mathlib.Core.Bool.{Bool, true, false}
 use mathlib.Core.List.{List, []}
@@ -17,7 +16,6 @@ use Rattle.history.proofs.Plan.{Begin-keeps, Kept}
 use Rattle.history.proofs.Refusals.{refused-keeps}
 use Rattle.history.specs.Record.{History, fallen, newborn}
 use Rattle.history.specs.Runs.{loss-in}
-use Rattle.layout.specs.declared.set_up.SetUp.{SetUp}
 use Rattle.rules.specs.Admission.{admitted, is-thread}
 use Rattle.rules.specs.Begin.{begin-admitted, begin-unmarked, fresh}
 use Rattle.rules.specs.Conflicts.{owner-of}
@@ -28,7 +26,7 @@ use Rattle.rules.specs.declared.answer.Answer.the-variants.{Done}
 use Rattle.rules.specs.declared.call.Call.the-variants.{Begin}
 use Rattle.rules.specs.declared.kind.Kind.the-variants.{Begin as Beginning}
 use Rattle.rules.specs.declared.phase.Phase.the-variants.{Idle}
-use Rattle.std.proofs.shelf.Tests.{and-parts, both-ways, leb-true}
+use Rattle.std.proofs.shelf.Tests.{both-ways}
 use Rattle.std.specs.declared.result.Result.{Result}
 use Rattle.std.specs.declared.result.Result.the-variants.{Ok, Err}
 

@@ -4,7 +4,7 @@ use lib.Dec.{eqb}
 use lib.ListN.{length, getD, set, drop}
 use mathlib.Core.Bool.{Bool, true, false, cond}
 use mathlib.Core.List.{List, [], _∷_}
-use mathlib.Core.Logic.{_⊎_, inl, inr}
+use mathlib.Core.Logic.{inl, inr}
 use mathlib.Core.Path.{_≡_, refl, ap, sym, subst, _∙_}
 use native.Mathlib.Omega.{arith}
 use Rattle.common.specs.declared.refusal.Refusal.{Refusal}
@@ -13,7 +13,7 @@ use Rattle.history.proofs.DrainSteps.{Drain-step, drained-engine, drained-outc
 use Rattle.history.proofs.Holders.{held-by, hold-none}
 use Rattle.history.proofs.Invariant.{Fits, Front, Sealed-fits, Phase-fits, front, hold-of, left-in, top, top-of}
 use Rattle.history.proofs.KeyedEntries.{has-dropped, never-has}
-use Rattle.history.proofs.Maps.{at-put-same, at-put-other, at-each}
+use Rattle.history.proofs.Maps.{at-put-same, at-put-other}
 use Rattle.history.proofs.Nexts.{next-some, next-none}
 use Rattle.history.proofs.Phases.{admitted-parts, sealed-fits, thread-not-zero}
 use Rattle.history.proofs.Plan.{Kept, Drain-keeps}
@@ -38,7 +38,7 @@ use Rattle.rules.specs.declared.kind.Kind.the-variants.{Drain as Draining}
 use Rattle.rules.specs.declared.phase.Phase.{Phase}
 use Rattle.rules.specs.declared.phase.Phase.the-variants.{Idle, Running, Sealed, Lost}
 use Rattle.std.proofs.shelf.Lists.{length-set, getD-set-same, getD-set-other, drop-all}
-use Rattle.std.proofs.shelf.Tests.{eqb-true, eqb-false, eq-eqb, ne-eqb, cond-true, cond-false, or-parts, cases-eq}
+use Rattle.std.proofs.shelf.Tests.{eqb-true, eqb-false, or-parts}
 use Rattle.std.specs.Finite.{nth}
 use Rattle.std.specs.declared.option.Option.{Option}
 use Rattle.std.specs.declared.option.Option.the-variants.{Some, None}

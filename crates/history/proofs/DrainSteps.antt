@@ -8,7 +8,7 @@ use mathlib.Core.Path.{_≡_, refl, ap, sym, subst, _∙_}
 use native.Mathlib.Omega.{arith}
 use Rattle.history.proofs.Growth.{Grows, loads-grow, point-alike, point-grows, points-grow, all-spared-grow}
 use Rattle.history.proofs.Holders.{held-by}
-use Rattle.history.proofs.Invariant.{Fits, Front, Hold, Stripe-fits, Word-fits, Sealed-fits, Phase-fits, Seat, Draining, Spent, front, hold-in, hold-of, left-in, left-of, top, top-of}
+use Rattle.history.proofs.Invariant.{Fits, Front, Hold, Stripe-fits, Word-fits, Sealed-fits, Phase-fits, Seat, Draining, Spent, front, left-in, left-of, top, top-of}
 use Rattle.history.proofs.Lines.{leads-at, present-unlost, work-other}
 use Rattle.history.proofs.Plan.{Kept, then}
 use Rattle.history.proofs.PutIn.{put-in-same}

@@ -12,14 +12,15 @@ use Rattle.contention.specs.Events.{Event}
 use Rattle.history.proofs.Growth.{grows-none}
 use Rattle.history.proofs.Holders.{free-not-draining, hold-none, unsealed-hold}
 use Rattle.history.proofs.Invariant.{Draining, Fits, Phase-fits, Runs-on, Seated, front, hold-of}
+use Rattle.history.proofs.Leaders.{leader-beats}
 use Rattle.history.proofs.Lines.{leads-at, present-other, present-unlost, work-other}
 use Rattle.history.proofs.Losses.{seat-lost}
 use Rattle.history.proofs.Phases.{running-fits, running-inside}
-use Rattle.history.proofs.Plan.{Kept, Leader-beats, then}
+use Rattle.history.proofs.Plan.{Kept, then}
 use Rattle.history.proofs.Quiet.{quiet-keeps, quiet-outcome, quiet-state}
 use Rattle.history.proofs.Seats.{draining-on, seat-apart, seat-other}
 use Rattle.history.specs.Law.{Point, Spared}
-use Rattle.history.specs.Record.{History, Line, Transaction, Work, Fall, acted, caller, deed, fallen, first-fall, leads, or-else, past-after, sealed-after, told-loss, watched, with-work}
+use Rattle.history.specs.Record.{History, Line, Transaction, Work, Fall, acted, caller, deed, fallen, leads, past-after, sealed-after, told-loss, watched, with-work}
 use Rattle.history.specs.Runs.{line-of, loss-in}
 use Rattle.rules.specs.Admission.{is-running, is-sealed, is-thread}
 use Rattle.rules.specs.Conflicts.{owner-of}
@@ -29,10 +30,10 @@ use Rattle.rules.specs.States.{State, Stripe, Thread, World, stripe-at, thread-
 use Rattle.rules.specs.declared.answer.Answer.{Answer}
 use Rattle.rules.specs.declared.call.Call.{Call}
 use Rattle.rules.specs.declared.phase.Phase.{Phase}
-use Rattle.rules.specs.declared.phase.Phase.the-variants.{Idle, Running, Sealed, Lost}
+use Rattle.rules.specs.declared.phase.Phase.the-variants.{Running, Lost}
 use Rattle.std.proofs.shelf.Tests.{and-parts, both-ways, cases-eq, leb-true, or-cases}
 use Rattle.std.specs.declared.option.Option.{Option}
-use Rattle.std.specs.declared.option.Option.the-variants.{Some, None}
+use Rattle.std.specs.declared.option.Option.the-variants.{None}
 use Rattle.std.specs.shelf.Lists.{All}
 
 -- the call, by its answer, is one call more of its thread's transaction, and does this to its work
@@ -68,7 +69,7 @@ pub record Goes-through (ws : List ℕ) (base : ℕ) (w : World) (h : History) (
   pub running : at ts n .phase ≡ Running
   pub fits : Runs-on ws base w h (λ s. at ss s .owner) n (at ts n) (more (h .present n .work)) (h .present n .fall)
 
-module _ (leader-beats : Leader-beats) (ws : List ℕ) (base : ℕ) (w : World) (h : History) (beats : Table) (c : Call) (a : Answer)
+module _ (ws : List ℕ) (base : ℕ) (w : World) (h : History) (beats : Table) (c : Call) (a : Answer)
     (es : List Event) (more : Work → Work) (m : Bool) (ss : Map Stripe) (ts : Map Thread) (f : Fits ws base w h)
     (run : thread-of (w .engine) (caller c) .phase ≡ Running)
     (goes : Goes-on c a (length (h .updaters)) more) (x : Goes-through ws base w h beats (caller c) more ss ts) where

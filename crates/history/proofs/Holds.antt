@@ -19,9 +19,9 @@ use Rattle.history.specs.Serial.{all-not-drained, drain-count, not-drained, pu
 use Rattle.layout.specs.SetUps.{stripe-of}
 use Rattle.layout.specs.declared.entries.WriteEntry.{WriteEntry}
 use Rattle.rules.specs.Conflicts.{owner-of}
-use Rattle.rules.specs.States.{World, Thread, thread-of}
+use Rattle.rules.specs.States.{World, thread-of}
 use Rattle.rules.specs.declared.phase.Phase.{Phase}
-use Rattle.rules.specs.declared.phase.Phase.the-variants.{Idle, Running, Sealed, Lost}
+use Rattle.rules.specs.declared.phase.Phase.the-variants.{Sealed}
 use Rattle.std.proofs.shelf.Lists.{ext-getD}
 use Rattle.std.proofs.shelf.Tests.{both-ways}
 use Rattle.std.specs.declared.option.Option.{Option}

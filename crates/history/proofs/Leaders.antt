@@ -5,7 +5,6 @@ use mathlib.Core.Bool.{true, false, not, _&&_, _||_}
 use mathlib.Core.Logic.{_⊎_, inl, inr}
 use mathlib.Core.Path.{_≡_, sym, subst, _∙_}
 use native.Mathlib.Omega.{arith}
-use Rattle.history.proofs.Plan.{Leader-beats}
 use Rattle.history.specs.Record.{leads}
 use Rattle.rules.specs.Outcomes.{Table}
 use Rattle.std.proofs.shelf.Tests.{and-parts, cases-order, eqb-true, not-true, or-cases}
@@ -26,7 +25,7 @@ beats-here beats n m d e = go (or-cases (eqb m n) (beats n m && not (beats m n))
         (r .0, not-true (beats m n) (r .1))
 
 -- a leader beats each other thread of the set-up, and none beats it
-pub leader-beats : Leader-beats
+pub leader-beats : (beats : Table) (n m t : ℕ) → leads beats n t ≡ true → 1 ≤ m → m ≤ t → (m ≡ n → ⊥) → Beats-only beats n m
 leader-beats beats n m zero e low high d = absurd (omega arith)
 leader-beats beats n m (suc t) e low high d =
     go (λ l. leader-beats beats n m t (parts .1) low l d) (cases-order m (suc t))

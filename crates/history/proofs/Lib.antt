@@ -33,5 +33,4 @@ pub mod SerialRuns
 pub mod Store
 pub mod Turns
 pub mod UpdaterSeal
-pub mod Whole
 pub mod Wins

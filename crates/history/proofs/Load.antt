@@ -16,9 +16,10 @@ use Rattle.history.proofs.Holders.{free-hold}
 use Rattle.history.proofs.Invariant.{Fits, Front, Mark-fits, Running-fits, front}
 use Rattle.history.proofs.KeyedEntries.{found-has, grown-roomy, has-before, has-pushed}
 use Rattle.history.proofs.Logs.{log-finds-kept}
+use Rattle.history.proofs.Losses.{lost-keeps}
 use Rattle.history.proofs.Maps.{at-put-same, at-put-other}
 use Rattle.history.proofs.Phases.{Admitted, admitted-parts, running-fits, running-phase}
-use Rattle.history.proofs.Plan.{Kept, Leader-beats, Load-keeps, Lost-keeps}
+use Rattle.history.proofs.Plan.{Kept, Load-keeps}
 use Rattle.history.proofs.Quiet.{quiet-outcome}
 use Rattle.history.proofs.ReadLogs.{free-word-agrees, invalid-excuses, refresh-agrees}
 use Rattle.history.proofs.Refusals.{refused-keeps}
@@ -89,7 +90,7 @@ answered-fits u ws us base fs owner n a v end t w f rs r x = record {
   others = r .others;
 }
 
-module _ (leader-beats : Leader-beats) (ws : List ℕ) (base : ℕ) (w : World) (h : History) (beats : Table) (n a : ℕ)
+module _ (ws : List ℕ) (base : ℕ) (w : World) (h : History) (beats : Table) (n a : ℕ)
     (f : Fits ws base w h) (run : thread-of (w .engine) n .phase ≡ Running) where
   -- a load that is answered
   answered-keeps : (v end : ℕ) (rs : List ReadMark) (es : List Event) (ts : Map Thread) →
@@ -98,7 +99,7 @@ module _ (leader-beats : Leader-beats) (ws : List ℕ) (base : ℕ) (w : World) 
       Answered (w .engine .set-up) ws (h .updaters) base (front (w .engine)) n a v end (thread-of (w .engine) n) (h .present n .work) rs →
       Kept ws base w h beats (Load n a) (quiet-outcome w (Word v) es (threaded (w .engine) ts))
   answered-keeps v end rs es ts own others x =
-      goes-on-keeps leader-beats ws base w h beats (Load n a) (Word v) es (called-load (Load n a) (length (h .updaters)) v)
+      goes-on-keeps ws base w h beats (Load n a) (Word v) es (called-load (Load n a) (length (h .updaters)) v)
       (w .engine .mark) (w .engine .stripes) ts f run
       (record { acts = λ t. refl; thread = λ y. refl; updaters = λ y us. refl; past = λ t us. refl; told = refl })
       (record {
@@ -210,15 +211,14 @@ module _ (leader-beats : Leader-beats) (ws : List ℕ) (base : ℕ) (w : World) 
     won-keeps false e roomy ts es won = noted-keeps ts es roomy won
 
     -- from the snapshot end on: the meeting, then the word
-    pub fresh-keeps : Lost-keeps → (known : Bool) → has-read (thread-of (w .engine) n) s ≡ known →
+    pub fresh-keeps : (known : Bool) → has-read (thread-of (w .engine) n) s ≡ known →
         (not known && is-full (thread-of (w .engine) n .reads)) ≡ false → (ts : Map Thread) → Refreshed (w .engine) n end ts →
         (es : List Event) → Kept ws base w h beats (Load n a) (load-fresh beats w n a s known (goes (threaded (w .engine) ts) es))
-    fresh-keeps lost-keeps known e roomy ts r es =
-        contend-keeps lost-keeps leader-beats ws base w h beats (Load n a) s end ts f run r (load-won w n a s known) (λ l st. refl) (won-keeps known e roomy)
+    fresh-keeps known e roomy ts r es =
+        contend-keeps ws base w h beats (Load n a) s end ts f run r (load-won w n a s known) (λ l st. refl) (won-keeps known e roomy)
 
 -- the checks of a load, one after another
-module _ (lost-keeps : Lost-keeps) (leader-beats : Leader-beats)
-    (ws : List ℕ) (base : ℕ) (w : World) (h : History) (beats : Table) (n a : ℕ) (f : Fits ws base w h) where
+module _ (ws : List ℕ) (base : ℕ) (w : World) (h : History) (beats : Table) (n a : ℕ) (f : Fits ws base w h) where
   -- the stripe of the address
   abbrev loaded-stripe : ℕ
   loaded-stripe = stripe-of (w .engine .set-up) a
@@ -236,9 +236,9 @@ module _ (lost-keeps : Lost-keeps) (leader-beats : Leader-beats)
       old-keeps : stripe-at (w .engine) loaded-stripe .version ≤ thread-of (w .engine) n .snapshot →
           Kept ws base w h beats (Load n a) (load-fresh beats w n a loaded-stripe known (goes (w .engine) []))
       old-keeps old =
-          fresh-keeps leader-beats ws base w h beats n a f run loaded-stripe (thread-of (w .engine) n .snapshot) refl inside logless free
+          fresh-keeps ws base w h beats n a f run loaded-stripe (thread-of (w .engine) n .snapshot) refl inside logless free
           (omega arith) old (omega (arith, r .by-last-load, r .so-far)) (r .loads)
-          lost-keeps known e roomy (w .engine .threads) (record { own = refl; others = λ k d. refl }) []
+          known e roomy (w .engine .threads) (record { own = refl; others = λ k d. refl }) []
 
       -- it is newer, and the read log has no invalid entry
       checked-keeps : thread-of (w .engine) n .snapshot < stripe-at (w .engine) loaded-stripe .version →
@@ -247,10 +247,10 @@ module _ (lost-keeps : Lost-keeps) (leader-beats : Leader-beats)
       checked-keeps newer valid =
           let by-clock : stripe-at (w .engine) loaded-stripe .version ≤ w .engine .clock =
           omega (arith, f .stripes loaded-stripe .rises, f .stripes loaded-stripe .by-clock) in
-          fresh-keeps leader-beats ws base w h beats n a f run loaded-stripe (w .engine .clock) refl inside logless free
+          fresh-keeps ws base w h beats n a f run loaded-stripe (w .engine .clock) refl inside logless free
           (omega (arith, newer, by-clock)) by-clock (omega (arith, f .count))
           (subst (λ (m : ℕ). Loads-at ws (h .updaters) m (h .present n .work)) (f .count) (refresh-agrees ws base w h n f run valid))
-          lost-keeps known e roomy (put (w .engine .threads) n (with-snapshot (thread-of (w .engine) n) (w .engine .clock)))
+          known e roomy (put (w .engine .threads) n (with-snapshot (thread-of (w .engine) n) (w .engine .clock)))
           (record {
             own = at-put-same (w .engine .threads) n (with-snapshot (thread-of (w .engine) n) (w .engine .clock));
             others = λ k d. at-put-other (w .engine .threads) n k (with-snapshot (thread-of (w .engine) n) (w .engine .clock)) d;
@@ -303,7 +303,7 @@ module _ (lost-keeps : Lost-keeps) (leader-beats : Leader-beats)
   -- the address is in the write log or not
   logged-keeps : thread-of (w .engine) n .phase ≡ Running → a < length (w .words) →
       (o : Option WriteEntry) → written (thread-of (w .engine) n) a ≡ o → Kept ws base w h beats (Load n a) (load-logged beats w n a o)
-  logged-keeps run inside (Some e) p = own-log-keeps leader-beats ws base w h beats n a f run e p
+  logged-keeps run inside (Some e) p = own-log-keeps ws base w h beats n a f run e p
   logged-keeps run inside None p =
       roomy-keeps run inside p (has-read (thread-of (w .engine) n) loaded-stripe) refl
       (not (has-read (thread-of (w .engine) n) loaded-stripe) && is-full (thread-of (w .engine) n .reads)) refl
@@ -321,6 +321,6 @@ module _ (lost-keeps : Lost-keeps) (leader-beats : Leader-beats)
   admitted-keeps (Ok x) p = placed-keeps (admitted-parts (w .engine) Loading n x p) (ltb a (length (w .words))) refl
 
 -- a load keeps everything, whatever it meets
-pub load-keeps : Lost-keeps → Leader-beats → Load-keeps
-load-keeps lost-keeps leader-beats ws base w h beats n a f =
-    admitted-keeps lost-keeps leader-beats ws base w h beats n a f (admitted (w .engine) Loading n) refl
+pub load-keeps : Load-keeps
+load-keeps ws base w h beats n a f =
+    admitted-keeps ws base w h beats n a f (admitted (w .engine) Loading n) refl

@@ -4,23 +4,24 @@ use lib.ListN.{length}
 use mathlib.Core.Bool.{Bool, true, _&&_}
 use mathlib.Core.List.{List, []}
 use mathlib.Core.Path.{_≡_, refl, sym, subst}
-use native.Mathlib.Omega.{arith}
 use Rattle.common.specs.declared.loss.Loss.{Loss}
 use Rattle.history.proofs.Alone.{alone-keeps}
 use Rattle.history.proofs.Holders.{hold-none}
-use Rattle.history.proofs.Invariant.{Front, Seat, Phase-fits, Running-fits, front}
+use Rattle.history.proofs.Invariant.{Fits, Front, Seat, Phase-fits}
 use Rattle.history.proofs.Phases.{running-fits, running-inside}
-use Rattle.history.proofs.Plan.{Lost-keeps}
+use Rattle.history.proofs.Plan.{Kept}
+use Rattle.history.proofs.Quiet.{quiet-state}
 use Rattle.history.specs.Law.{Excused}
-use Rattle.history.specs.Record.{Transaction, Work, Fall, caller, fallen, first-fall, watched, leads}
+use Rattle.history.specs.Record.{History, Transaction, Work, Fall, caller, fallen, first-fall, watched, leads}
 use Rattle.layout.specs.declared.set_up.SetUp.{SetUp}
 use Rattle.rules.specs.Admission.{is-thread}
-use Rattle.rules.specs.Conflicts.{owner-of}
-use Rattle.rules.specs.Maps.{at}
-use Rattle.rules.specs.States.{Thread, thread-of}
+use Rattle.rules.specs.Maps.{Map, at}
+use Rattle.rules.specs.Outcomes.{Table, lost}
+use Rattle.rules.specs.States.{Thread, World, thread-of}
 use Rattle.rules.specs.declared.answer.Answer.the-variants.{Lost as AnsweredLost}
+use Rattle.rules.specs.declared.call.Call.{Call}
 use Rattle.rules.specs.declared.phase.Phase.{Phase}
-use Rattle.rules.specs.declared.phase.Phase.the-variants.{Idle, Running, Lost}
+use Rattle.rules.specs.declared.phase.Phase.the-variants.{Running, Lost}
 use Rattle.std.proofs.shelf.Tests.{and-parts, both-ways}
 use Rattle.std.specs.declared.option.Option.{Option}
 use Rattle.std.specs.declared.option.Option.the-variants.{Some}
@@ -47,10 +48,18 @@ seat-lost {u} {ws} {us} {base} {fs} {owner} {owner′} {n} {t} {t′} x l m b s 
     })
 
 -- a losing call: only the caller's thread changed, its fall is on record, and a leader is excused
-pub lost-keeps : Lost-keeps
+pub lost-keeps : (ws : List ℕ) (base : ℕ) (w : World) (h : History) (beats : Table) (c : Call) (l : Loss) (m : Bool) (ts : Map Thread) →
+    Fits ws base w h →
+    thread-of (w .engine) (caller c) .phase ≡ Running →
+    at ts (caller c) .phase ≡ Lost l →
+    ((k : ℕ) → (k ≡ caller c → ⊥) → at ts k ≡ thread-of (w .engine) k) →
+    (leads beats (caller c) (w .engine .set-up .threads) ≡ true →
+    Excused (w .engine .set-up) (h .updaters) (h .present (caller c) .work) (length (h .updaters)) l) →
+    Kept ws base w h beats c (lost w l (quiet-state (w .engine) m (w .engine .stripes) ts))
 lost-keeps ws base w h beats c l m ts f was is others excused =
     alone-keeps ws base w h beats c (AnsweredLost l) [] m ts f others
     (hold-none (thread-of (w .engine) (caller c)) Running was refl)
     (hold-none (at ts (caller c)) (Lost l) is refl) refl
-    (seat-lost (h .present (caller c)) l (length (h .updaters)) (leads beats (caller c) (w .engine .set-up .threads)) (f .seats (caller c)) was is excused)
+    (seat-lost (h .present (caller c)) l (length (h .updaters)) (leads beats (caller c) (w .engine .set-up .threads))
+    (f .seats (caller c)) was is excused)
     (f .past-points) (f .past-spared)

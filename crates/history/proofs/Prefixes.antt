@@ -4,7 +4,7 @@ use lib.ListN.{take}
 use mathlib.Core.List.{List, [], _∷_}
 use mathlib.Core.Path.{_≡_, refl, sym, ap, subst, _∙_}
 use Rattle.contention.specs.Events.{Event, after-events}
-use Rattle.history.proofs.Whole.{lawful}
+use Rattle.history.proofs.Induction.{lawful}
 use Rattle.history.specs.Law.{Law}
 use Rattle.history.specs.Record.{Line}
 use Rattle.history.specs.Runs.{Asked, line-of, recorded-from}

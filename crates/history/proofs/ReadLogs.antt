@@ -7,13 +7,13 @@ use mathlib.Core.List.{List, [], _∷_}
 use mathlib.Core.Logic.{_⊎_, inl, inr}
 use mathlib.Core.Path.{_≡_, refl, ap, sym, subst, _∙_}
 use native.Mathlib.Omega.{arith}
+use Rattle.common.specs.declared.loss.Loss.the-variants.{Invalid}
 use Rattle.history.proofs.Holders.{free-hold, held-none-free}
 use Rattle.history.proofs.Invariant.{Fits, Hold, Mark-fits, Overtaken, front, left-of, top, top-of}
 use Rattle.history.proofs.KeyedEntries.{all-both, keyed}
 use Rattle.history.proofs.Phases.{running-fits}
-use Rattle.history.proofs.Plan.{Refresh-agrees, Invalid-excuses}
 use Rattle.history.proofs.SerialRuns.{since-moment}
-use Rattle.history.specs.Law.{words-at}
+use Rattle.history.specs.Law.{Excused, Loads-at, words-at}
 use Rattle.history.specs.Record.{History, Work}
 use Rattle.history.specs.Serial.{loaded-on, serial-run, put-in}
 use Rattle.layout.specs.SetUps.{stripe-of}
@@ -124,13 +124,17 @@ module _ (ws : List ℕ) (base : ℕ) (w : World) (h : History) (n : ℕ) (f : F
       go (inr x) = x
 
 -- a read log with no invalid entry lets the snapshot end be the present moment
-pub refresh-agrees : Refresh-agrees
+pub refresh-agrees : (ws : List ℕ) (base : ℕ) (w : World) (h : History) (n : ℕ) → Fits ws base w h →
+    thread-of (w .engine) n .phase ≡ Running → first-invalid (w .engine) n (thread-of (w .engine) n .reads) ≡ None →
+    Loads-at ws (h .updaters) (length (h .updaters)) (h .present n .work)
 refresh-agrees ws base w h n f run none =
     ap (λ (us : List Work). loaded-on (serial-run ws us) (h .present n .work .calls)) (take-all (length (h .updaters)) (h .updaters) (omega arith))
     ∙ present-loads ws base w h n f run (valid-entries (w .engine) n (thread-of (w .engine) n .reads) none)
 
 -- and one with an invalid entry excuses a leader's loss
-pub invalid-excuses : Invalid-excuses
+pub invalid-excuses : (ws : List ℕ) (base : ℕ) (w : World) (h : History) (n s : ℕ) → Fits ws base w h →
+    thread-of (w .engine) n .phase ≡ Running → first-invalid (w .engine) n (thread-of (w .engine) n .reads) ≡ Some s →
+    Excused (w .engine .set-up) (h .updaters) (h .present n .work) (length (h .updaters)) (Invalid s)
 invalid-excuses ws base w h n s f run some =
     let x = invalid-entry (w .engine) n s
     (λ e. Mark-fits (w .engine .set-up) (h .updaters) n (h .present n .work .begun) (thread-of (w .engine) n .snapshot) (front (w .engine) (e .stripe)) e)

@@ -10,7 +10,7 @@ use Rattle.history.proofs.Lines.{fallen-work, leads-at, present-caller, work-o
 use Rattle.history.proofs.Plan.{Kept, then}
 use Rattle.history.proofs.Quiet.{quiet-keeps}
 use Rattle.history.proofs.Seats.{draining-on, seat-other, seat-watched}
-use Rattle.history.specs.Record.{History, Transaction, Work, caller, watched, fallen}
+use Rattle.history.specs.Record.{History, Transaction, caller, watched, fallen}
 use Rattle.history.specs.Runs.{line-of, losses-of}
 use Rattle.rules.specs.Conflicts.{owner-of}
 use Rattle.rules.specs.Outcomes.{Table, refuse}

@@ -15,11 +15,13 @@ use Rattle.history.proofs.Growth.{point-alike}
 use Rattle.history.proofs.Holders.{hold-none}
 use Rattle.history.proofs.Invariant.{Fits, Seated, hold-of}
 use Rattle.history.proofs.Logs.{stored-logged}
+use Rattle.history.proofs.Losses.{lost-keeps}
 use Rattle.history.proofs.Maps.{at-put-same, at-put-other}
 use Rattle.history.proofs.Phases.{admitted-parts, running-fits, running-phase}
-use Rattle.history.proofs.Plan.{Kept, Seal-keeps, Lost-keeps, Refresh-agrees, Invalid-excuses}
+use Rattle.history.proofs.Plan.{Kept, Seal-keeps}
 use Rattle.history.proofs.PutIn.{has-address}
 use Rattle.history.proofs.Quiet.{quiet-state}
+use Rattle.history.proofs.ReadLogs.{invalid-excuses, refresh-agrees}
 use Rattle.history.proofs.Refusals.{refused-keeps}
 use Rattle.history.proofs.UpdaterSeal.{ticketed, updater-keeps}
 use Rattle.history.specs.Law.{Excused, Loads-at, Spared}
@@ -106,42 +108,46 @@ module _ (ws : List ℕ) (base : ℕ) (w : World) (h : History) (beats : Table) 
       (at-put-same ts n t′ ∙ ap (λ (x : Thread). with-phase x (Sealed (w .engine .clock + 1) 0)) (at-put-same (w .engine .threads) n t))
       (λ k d. at-put-other ts n k t′ d ∙ at-put-other (w .engine .threads) n k t d)
 
-  module _ (lost-keeps : Lost-keeps) (refresh-agrees : Refresh-agrees) (invalid-excuses : Invalid-excuses) where
-    -- a seal that loses the transaction
-    loses-keeps : (l : Loss) (m : Bool) → Excused (w .engine .set-up) (h .updaters) (h .present n .work) (length (h .updaters)) l →
-        Kept ws base w h beats (Seal n)
-        (lost w l (quiet-state (w .engine) m (w .engine .stripes) (put (w .engine .threads) n (with-phase (thread-of (w .engine) n) (Lost l)))))
-    loses-keeps l m x =
-        let t = with-phase (thread-of (w .engine) n) (Lost l) in
-        lost-keeps ws base w h beats (Seal n) l m (put (w .engine .threads) n t) f running
-        (ap (λ (y : Thread). y .phase) (at-put-same (w .engine .threads) n t))
-        (λ k d. at-put-other (w .engine .threads) n k t d) (λ leader. x)
+  -- a seal that loses the transaction
+  loses-keeps : (l : Loss) (m : Bool) → Excused (w .engine .set-up) (h .updaters) (h .present n .work) (length (h .updaters)) l →
+      Kept ws base w h beats (Seal n)
+      (lost w l (quiet-state (w .engine) m (w .engine .stripes) (put (w .engine .threads) n (with-phase (thread-of (w .engine) n) (Lost l)))))
+  loses-keeps l m x =
+      let t = with-phase (thread-of (w .engine) n) (Lost l) in
+      lost-keeps ws base w h beats (Seal n) l m (put (w .engine .threads) n t) f running
+      (ap (λ (y : Thread). y .phase) (at-put-same (w .engine .threads) n t))
+      (λ k d. at-put-other (w .engine .threads) n k t d) (λ leader. x)
 
-    rechecked-keeps : (o : Option ℕ) → first-invalid (w .engine) n (thread-of (w .engine) n .reads) ≡ o →
-        Kept ws base w h beats (Seal n) (seal-checked w n (rechecked (w .engine) n o))
-    rechecked-keeps None e = checked-keeps (refresh-agrees ws base w h n f running e)
-    rechecked-keeps (Some s) e = loses-keeps (Invalid s) (w .engine .mark) (invalid-excuses ws base w h n s f running e)
+  -- the read log has an invalid entry or not
+  rechecked-keeps : (o : Option ℕ) → first-invalid (w .engine) n (thread-of (w .engine) n .reads) ≡ o →
+      Kept ws base w h beats (Seal n) (seal-checked w n (rechecked (w .engine) n o))
+  rechecked-keeps None e = checked-keeps (refresh-agrees ws base w h n f running e)
+  rechecked-keeps (Some s) e = loses-keeps (Invalid s) (w .engine .mark) (invalid-excuses ws base w h n s f running e)
 
-    check-keeps : (b : Bool) → eqb (w .engine .clock) (thread-of (w .engine) n .snapshot) ≡ b →
-        Kept ws base w h beats (Seal n) (seal-checked w n (seal-check (w .engine) n b))
-    check-keeps true e = unchecked-keeps (eqb-true (w .engine .clock) (thread-of (w .engine) n .snapshot) e)
-    check-keeps false e = rechecked-keeps (first-invalid (w .engine) n (thread-of (w .engine) n .reads)) refl
+  -- something was sealed since the snapshot end or not
+  check-keeps : (b : Bool) → eqb (w .engine .clock) (thread-of (w .engine) n .snapshot) ≡ b →
+      Kept ws base w h beats (Seal n) (seal-checked w n (seal-check (w .engine) n b))
+  check-keeps true e = unchecked-keeps (eqb-true (w .engine .clock) (thread-of (w .engine) n .snapshot) e)
+  check-keeps false e = rechecked-keeps (first-invalid (w .engine) n (thread-of (w .engine) n .reads)) refl
 
-    unspent-keeps : (b : Bool) → Kept ws base w h beats (Seal n) (seal-unspent w n b)
-    unspent-keeps true = loses-keeps ClockSpent true tt
-    unspent-keeps false = check-keeps (eqb (w .engine .clock) (thread-of (w .engine) n .snapshot)) refl
+  -- the clock is spent or not
+  unspent-keeps : (b : Bool) → Kept ws base w h beats (Seal n) (seal-unspent w n b)
+  unspent-keeps true = loses-keeps ClockSpent true tt
+  unspent-keeps false = check-keeps (eqb (w .engine .clock) (thread-of (w .engine) n .snapshot)) refl
 
-    updates-keeps : (b : Bool) → eqb (length (thread-of (w .engine) n .writes)) 0 ≡ b →
-        Kept ws base w h beats (Seal n) (seal-updates w n b)
-    updates-keeps true e = reader-keeps (eqb-true (length (thread-of (w .engine) n .writes)) 0 e)
-    updates-keeps false e = unspent-keeps (leb (w .engine .set-up .limit) (w .engine .clock))
+  -- the transaction stored something or not
+  updates-keeps : (b : Bool) → eqb (length (thread-of (w .engine) n .writes)) 0 ≡ b →
+      Kept ws base w h beats (Seal n) (seal-updates w n b)
+  updates-keeps true e = reader-keeps (eqb-true (length (thread-of (w .engine) n .writes)) 0 e)
+  updates-keeps false e = unspent-keeps (leb (w .engine .set-up .limit) (w .engine .clock))
 
-pub seal-keeps : Lost-keeps → Refresh-agrees → Invalid-excuses → Seal-keeps
-seal-keeps lost-keeps refresh-agrees invalid-excuses ws base w h beats n f = go (admitted (w .engine) Sealing n) refl
+-- a seal is refused, or it keeps the invariant whatever it finds
+pub seal-keeps : Seal-keeps
+seal-keeps ws base w h beats n f = go (admitted (w .engine) Sealing n) refl
   where
     go : (r : Result (Unit {0}) Refusal) → admitted (w .engine) Sealing n ≡ r → Kept ws base w h beats (Seal n) (seal-admitted w n r)
     go (Err r) e = refused-keeps ws base w h beats (Seal n) r f
     go (Ok x) e =
         let a = admitted-parts (w .engine) Sealing n x e in
         updates-keeps ws base w h beats n f (a .inside) (running-phase (thread-of (w .engine) n .phase) (a .fits))
-        lost-keeps refresh-agrees invalid-excuses (eqb (length (thread-of (w .engine) n .writes)) 0) refl
+        (eqb (length (thread-of (w .engine) n .writes)) 0) refl

@@ -15,7 +15,7 @@ use Rattle.history.proofs.Invariant.{Fits, Front, Running-fits, front, stores-
 use Rattle.history.proofs.KeyedEntries.{found-has, grown-roomy, has-replaced, pushed-cases}
 use Rattle.history.proofs.Maps.{at-put-same, at-put-other}
 use Rattle.history.proofs.Phases.{Admitted, admitted-parts, running-fits, running-phase}
-use Rattle.history.proofs.Plan.{Kept, Leader-beats, Lost-keeps, Store-keeps}
+use Rattle.history.proofs.Plan.{Kept, Store-keeps}
 use Rattle.history.proofs.Quiet.{quiet-outcome, quiet-state}
 use Rattle.history.proofs.Refusals.{refused-keeps}
 use Rattle.history.proofs.Wins.{Won, contend-keeps, threaded, won-then}
@@ -80,7 +80,7 @@ logged-fits u ws us base fs owner owner′ n a v t w f es r x = record {
     stored s (inl o) = or-right (eqb (stripe-of u a) s) (stores-in u s w) (r .owns-stored s o)
     stored s (inr e) = or-left (eqb (stripe-of u a) s) (stores-in u s w) (eq-eqb (stripe-of u a) s e)
 
-module _ (leader-beats : Leader-beats) (ws : List ℕ) (base : ℕ) (w : World) (h : History) (beats : Table) (n a v : ℕ)
+module _ (ws : List ℕ) (base : ℕ) (w : World) (h : History) (beats : Table) (n a v : ℕ)
     (f : Fits ws base w h) (run : thread-of (w .engine) n .phase ≡ Running) where
   -- a store that is done
   logged-keeps : (log : List WriteEntry) (es : List Event) (ss : Map Stripe) (ts : Map Thread) →
@@ -90,7 +90,7 @@ module _ (leader-beats : Leader-beats) (ws : List ℕ) (base : ℕ) (w : World) 
       Logged (w .engine .set-up) (owner-of (w .engine)) (λ s. at ss s .owner) n a v (thread-of (w .engine) n) (h .present n .work) log →
       Kept ws base w h beats (Store n a v) (quiet-outcome w Done es (quiet-state (w .engine) (w .engine .mark) ss ts))
   logged-keeps log es ss ts own others stripes x =
-      goes-on-keeps leader-beats ws base w h beats (Store n a v) Done es (called (Store n a v))
+      goes-on-keeps ws base w h beats (Store n a v) Done es (called (Store n a v))
       (w .engine .mark) ss ts f run
       (record { acts = λ t. refl; thread = λ y. refl; updaters = λ y us. refl; past = λ t us. refl; told = refl })
       (record {
@@ -233,7 +233,7 @@ module _ (leader-beats : Leader-beats) (ws : List ℕ) (base : ℕ) (w : World) 
         go false p = taken-keeps es
 
 -- the checks of a store, one after another
-module _ (lost-keeps : Lost-keeps) (leader-beats : Leader-beats) (ws : List ℕ) (base : ℕ) (w : World) (h : History) (beats : Table)
+module _ (ws : List ℕ) (base : ℕ) (w : World) (h : History) (beats : Table)
     (n a v : ℕ) (f : Fits ws base w h) where
   module _ (run : thread-of (w .engine) n .phase ≡ Running) where
     -- the stripe is busy or not
@@ -242,9 +242,9 @@ module _ (lost-keeps : Lost-keeps) (leader-beats : Leader-beats) (ws : List ℕ)
         Kept ws base w h beats (Store n a v) (store-free beats w n a v (stripe-of (w .engine .set-up) a) b)
     free-keeps fresh roomy true p = refused-keeps ws base w h beats (Store n a v) StripeBusy f
     free-keeps fresh roomy false p =
-        contend-keeps lost-keeps leader-beats ws base w h beats (Store n a v) (stripe-of (w .engine .set-up) a) (thread-of (w .engine) n .snapshot)
+        contend-keeps ws base w h beats (Store n a v) (stripe-of (w .engine .set-up) a) (thread-of (w .engine) n .snapshot)
         (w .engine .threads) f run (record { own = refl; others = λ k d. refl }) (store-won w n a v (stripe-of (w .engine .set-up) a)) (λ l st. refl)
-        (λ ts es won. won-keeps leader-beats ws base w h beats n a v f run fresh roomy
+        (λ ts es won. won-keeps ws base w h beats n a v f run fresh roomy
         (free-hold ws base w h n (stripe-of (w .engine .set-up) a) f run p) ts won es)
 
     -- the write log has room or not
@@ -255,7 +255,7 @@ module _ (lost-keeps : Lost-keeps) (leader-beats : Leader-beats) (ws : List ℕ)
 
     -- the address is in the write log or not
     entry-keeps : (b : Bool) → has-written (thread-of (w .engine) n) a ≡ b → Kept ws base w h beats (Store n a v) (store-logged beats w n a v b)
-    entry-keeps true p = rewrite-keeps leader-beats ws base w h beats n a v f run p
+    entry-keeps true p = rewrite-keeps ws base w h beats n a v f run p
     entry-keeps false p = roomy-keeps p (is-full (thread-of (w .engine) n .writes)) refl
 
   -- there is such an address or not
@@ -270,6 +270,6 @@ module _ (lost-keeps : Lost-keeps) (leader-beats : Leader-beats) (ws : List ℕ)
   admitted-keeps (Ok x) p = placed-keeps (admitted-parts (w .engine) Storing n x p) (ltb a (length (w .words)))
 
 -- a store keeps everything, whatever it meets
-pub store-keeps : Lost-keeps → Leader-beats → Store-keeps
-store-keeps lost-keeps leader-beats ws base w h beats n a v f =
-    admitted-keeps lost-keeps leader-beats ws base w h beats n a v f (admitted (w .engine) Storing n) refl
+pub store-keeps : Store-keeps
+store-keeps ws base w h beats n a v f =
+    admitted-keeps ws base w h beats n a v f (admitted (w .engine) Storing n) refl

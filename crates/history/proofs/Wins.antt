@@ -11,12 +11,14 @@ use Rattle.common.specs.declared.loss.Loss.the-variants.{Beaten, Stolen}
 use Rattle.contention.specs.Events.{Event, win-over}
 use Rattle.history.proofs.GoingOn.{Left-or-beaten}
 use Rattle.history.proofs.Invariant.{Fits}
+use Rattle.history.proofs.Leaders.{leader-beats}
+use Rattle.history.proofs.Losses.{lost-keeps}
 use Rattle.history.proofs.Maps.{at-put-same, at-put-other}
 use Rattle.history.proofs.Phases.{running-inside, running-phase, thread-not-zero}
-use Rattle.history.proofs.Plan.{Kept, Leader-beats, Lost-keeps}
+use Rattle.history.proofs.Plan.{Kept}
 use Rattle.history.proofs.Quiet.{quiet-state}
 use Rattle.history.specs.Record.{History, caller, leads}
-use Rattle.rules.specs.Admission.{is-running, is-thread}
+use Rattle.rules.specs.Admission.{is-running}
 use Rattle.rules.specs.Conflicts.{clash, contend, contended, is-other, owner-of, rival}
 use Rattle.rules.specs.Maps.{Map, at, put}
 use Rattle.rules.specs.Outcomes.{Outcome, Step, Table, goes, loses, lost}
@@ -133,7 +135,7 @@ module _ (ws : List ℕ) (base : ℕ) (w : World) (h : History) (beats : Table) 
       other j d (inr e) = inl (at-put-other ts k j victim e ∙ r .others j d)
 
 -- what comes after the meeting: a loss ends the call, and a won stripe lets it go on
-module _ (lost-keeps : Lost-keeps) (leader-beats : Leader-beats) (ws : List ℕ) (base : ℕ) (w : World) (h : History) (beats : Table) (c : Call)
+module _ (ws : List ℕ) (base : ℕ) (w : World) (h : History) (beats : Table) (c : Call)
     (s end : ℕ) (ts : Map Thread) (f : Fits ws base w h) (run : thread-of (w .engine) (caller c) .phase ≡ Running)
     (r : Refreshed (w .engine) (caller c) end ts) (rest : Step → Outcome)
     (ends : (l : Loss) (st : State) → rest (loses l st) ≡ lost w l st)
