@@ -8,23 +8,22 @@ use mathlib.Core.Path.{_≡_, refl, ap, sym, subst, _∙_}
 use native.Mathlib.Omega.{arith}
 use Rattle.common.specs.declared.loss.Loss.{Loss}
 use Rattle.common.specs.declared.loss.Loss.the-variants.{Beaten, Invalid, ClockSpent, Stolen}
-use Rattle.common.specs.declared.refusal.Refusal.{Refusal}
 use Rattle.history.proofs.Alone.{alone-keeps-owners, alone-holds}
 use Rattle.history.proofs.Holders.{hold-none}
 use Rattle.history.proofs.Growth.{grows-none, point-alike}
 use Rattle.history.proofs.Invariant.{Fits, Seated, front, hold-of}
 use Rattle.history.proofs.Lines.{fallen-before}
 use Rattle.history.proofs.Maps.{at-put-same, at-put-other}
-use Rattle.history.proofs.Phases.{admitted-parts, lost-fits, running-fits}
+use Rattle.history.proofs.Phases.{lost-fits, running-fits}
 use Rattle.history.proofs.Plan.{Back-keeps, Kept}
-use Rattle.history.proofs.Refusals.{refused-keeps}
+use Rattle.history.proofs.Refusals.{admitted-or-refused}
 use Rattle.history.proofs.Releases.{released-own, released-other, released-keeps, released-gains, released-nothing}
 use Rattle.history.proofs.Seats.{seat-apart}
 use Rattle.history.specs.Law.{Excused, Spared}
 use Rattle.history.specs.Record.{History, Transaction, Work, Fall, called, ended-loss, fallen, leads, or-else, rewritten, watched, with-work}
 use Rattle.history.specs.Runs.{loss-in}
 use Rattle.layout.specs.declared.set_up.SetUp.{SetUp}
-use Rattle.rules.specs.Admission.{admitted, is-for}
+use Rattle.rules.specs.Admission.{is-for}
 use Rattle.rules.specs.Back.{back-admitted, ending-of}
 use Rattle.rules.specs.Conflicts.{owner-of}
 use Rattle.rules.specs.Drain.{freed, release}
@@ -40,8 +39,7 @@ use Rattle.rules.specs.declared.phase.Phase.the-variants.{Idle, Running, Sealed
 use Rattle.std.proofs.shelf.Tests.{cases-eq}
 use Rattle.std.specs.declared.option.Option.{Option}
 use Rattle.std.specs.declared.option.Option.the-variants.{Some, None}
-use Rattle.std.specs.declared.result.Result.{Result}
-use Rattle.std.specs.declared.result.Result.the-variants.{Ok, Err}
+use Rattle.std.specs.declared.result.Result.the-variants.{Ok}
 
 -- one more call changes nothing of what excuses a loss
 spared-called : (u : SetUp) (us : List Work) (c : Call) (w : Work) (f : Option Fall) → Spared u us w f → Spared u us (called c w) f
@@ -185,10 +183,6 @@ module _ (ws : List ℕ) (base : ℕ) (w : World) (h : History) (beats : Table) 
 
 -- a back is refused, or its thread lets all its stripes go
 pub back-keeps : Back-keeps
-back-keeps ws base w h beats n f = go (admitted (w .engine) Backing n) refl
-  where
-    go : (r : Result (Unit {0}) Refusal) → admitted (w .engine) Backing n ≡ r → Kept ws base w h beats (Back n) (back-admitted w n r)
-    go (Err r) e = refused-keeps ws base w h beats (Back n) r f
-    go (Ok y) e =
-        back-leaves ws base w h beats n f
-        (leaves ws base w h n f (back-phase (thread-of (w .engine) n .phase) (admitted-parts (w .engine) Backing n y e .fits)))
+back-keeps ws base w h beats n f =
+    admitted-or-refused ws base w h beats (Back n) f Backing n (back-admitted w n) (λ r. refl)
+    (λ x. back-leaves ws base w h beats n f (leaves ws base w h n f (back-phase (thread-of (w .engine) n .phase) (x .fits))))

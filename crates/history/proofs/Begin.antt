@@ -5,18 +5,17 @@ use mathlib.Core.Bool.{Bool, true, false}
 use mathlib.Core.List.{List, []}
 use mathlib.Core.Path.{_≡_, refl, ap, sym, subst}
 use native.Mathlib.Omega.{arith}
-use Rattle.common.specs.declared.refusal.Refusal.{Refusal}
 use Rattle.common.specs.declared.refusal.Refusal.the-variants.{RollPending}
 use Rattle.history.proofs.Alone.{alone-keeps}
 use Rattle.history.proofs.Holders.{hold-none}
 use Rattle.history.proofs.Invariant.{Fits, Seated, hold-of}
 use Rattle.history.proofs.Maps.{at-put-same, at-put-other}
-use Rattle.history.proofs.Phases.{Admitted, admitted-parts, idle-fits, idle-phase, thread-not-zero}
+use Rattle.history.proofs.Phases.{Admitted, idle-fits, idle-phase, thread-not-zero}
 use Rattle.history.proofs.Plan.{Begin-keeps, Kept}
-use Rattle.history.proofs.Refusals.{refused-keeps}
+use Rattle.history.proofs.Refusals.{admitted-or-refused, refused-keeps}
 use Rattle.history.specs.Record.{History, fallen, newborn}
 use Rattle.history.specs.Runs.{loss-in}
-use Rattle.rules.specs.Admission.{admitted, is-thread}
+use Rattle.rules.specs.Admission.{is-thread}
 use Rattle.rules.specs.Begin.{begin-admitted, begin-unmarked, fresh}
 use Rattle.rules.specs.Conflicts.{owner-of}
 use Rattle.rules.specs.Maps.{at, put}
@@ -27,8 +26,6 @@ use Rattle.rules.specs.declared.call.Call.the-variants.{Begin}
 use Rattle.rules.specs.declared.kind.Kind.the-variants.{Begin as Beginning}
 use Rattle.rules.specs.declared.phase.Phase.the-variants.{Idle}
 use Rattle.std.proofs.shelf.Tests.{both-ways}
-use Rattle.std.specs.declared.result.Result.{Result}
-use Rattle.std.specs.declared.result.Result.the-variants.{Ok, Err}
 
 module _ (ws : List ℕ) (base : ℕ) (w : World) (h : History) (beats : Table) (n : ℕ) (f : Fits ws base w h)
     (inside : is-thread (w .engine .set-up) n ≡ true) (idle : thread-of (w .engine) n .phase ≡ Idle) where
@@ -83,12 +80,9 @@ module _ (ws : List ℕ) (base : ℕ) (w : World) (h : History) (beats : Table) 
 
 -- a begin is refused, or starts a transaction that has done nothing
 pub begin-keeps : Begin-keeps
-begin-keeps ws base w h beats n f = go (admitted (w .engine) Beginning n) refl
+begin-keeps ws base w h beats n f =
+    admitted-or-refused ws base w h beats (Begin n) f Beginning n (begin-admitted w n) (λ r. refl) (unmarked (w .engine .mark))
   where
     unmarked : (m : Bool) → Admitted (w .engine) Beginning n → Kept ws base w h beats (Begin n) (begin-unmarked w n m)
-    unmarked true x = refused-keeps ws base w h beats (Begin n) RollPending f
+    unmarked true x = refused-keeps ws base w h beats (Begin n) f RollPending
     unmarked false x = begin-runs ws base w h beats n f (x .inside) (idle-phase (thread-of (w .engine) n .phase) (x .fits))
-
-    go : (r : Result (Unit {0}) Refusal) → admitted (w .engine) Beginning n ≡ r → Kept ws base w h beats (Begin n) (begin-admitted w n r)
-    go (Err r) e = refused-keeps ws base w h beats (Begin n) r f
-    go (Ok x) e = unmarked (w .engine .mark) (admitted-parts (w .engine) Beginning n x e)

@@ -1,24 +1,22 @@
 -- A drain keeps the invariant.
-use Prim.Native.Nat.{ℕ, _+_, _-_, _≤_}
+use Prim.Native.Nat.{ℕ, _+_, _-_, _<_, _≤_}
 use lib.Dec.{eqb}
 use lib.ListN.{length, getD, set, drop}
 use mathlib.Core.Bool.{Bool, true, false, cond}
 use mathlib.Core.List.{List, [], _∷_}
-use mathlib.Core.Logic.{inl, inr}
+use mathlib.Core.Logic.{_⊎_, inl, inr}
 use mathlib.Core.Path.{_≡_, refl, ap, sym, subst, _∙_}
 use native.Mathlib.Omega.{arith}
-use Rattle.common.specs.declared.refusal.Refusal.{Refusal}
 use Rattle.common.specs.declared.refusal.Refusal.the-variants.{WrongState}
 use Rattle.history.proofs.DrainSteps.{Drain-step, drained-engine, drained-outcome, drained-once, step-keeps}
 use Rattle.history.proofs.Holders.{held-by, hold-none}
 use Rattle.history.proofs.Invariant.{Fits, Front, Sealed-fits, Phase-fits, front, hold-of, left-in, top, top-of}
 use Rattle.history.proofs.KeyedEntries.{has-dropped, never-has}
 use Rattle.history.proofs.Maps.{at-put-same, at-put-other}
-use Rattle.history.proofs.Nexts.{next-some, next-none}
-use Rattle.history.proofs.Phases.{admitted-parts, sealed-fits, thread-not-zero}
+use Rattle.history.proofs.Phases.{sealed-fits, thread-not-zero}
 use Rattle.history.proofs.Plan.{Kept, Drain-keeps}
 use Rattle.history.proofs.PutIn.{address-of, has-address, put-in-length, put-in-misses}
-use Rattle.history.proofs.Refusals.{refused-keeps}
+use Rattle.history.proofs.Refusals.{admitted-or-refused, refused-keeps}
 use Rattle.history.proofs.Releases.{released-own, released-other, released-keeps, released-gains, released-nothing}
 use Rattle.history.specs.Record.{History, Work, called, no-work}
 use Rattle.history.specs.Runs.{loss-in}
@@ -26,7 +24,7 @@ use Rattle.history.specs.Serial.{put-in, write-log, drain-count}
 use Rattle.layout.specs.SetUps.{stripe-of}
 use Rattle.layout.specs.declared.entries.WriteEntry.{WriteEntry}
 use Rattle.layout.specs.declared.set_up.SetUp.{SetUp}
-use Rattle.rules.specs.Admission.{admitted, is-thread}
+use Rattle.rules.specs.Admission.{is-thread}
 use Rattle.rules.specs.Conflicts.{owner-of}
 use Rattle.rules.specs.Drain.{freed, release, drain-next, drain-sealed, drain-admitted}
 use Rattle.rules.specs.Maps.{Map, at, put, each}
@@ -37,13 +35,32 @@ use Rattle.rules.specs.declared.call.Call.the-variants.{Drain}
 use Rattle.rules.specs.declared.kind.Kind.the-variants.{Drain as Draining}
 use Rattle.rules.specs.declared.phase.Phase.{Phase}
 use Rattle.rules.specs.declared.phase.Phase.the-variants.{Idle, Running, Sealed, Lost}
-use Rattle.std.proofs.shelf.Lists.{length-set, getD-set-same, getD-set-other, drop-all}
-use Rattle.std.proofs.shelf.Tests.{eqb-true, eqb-false, or-parts}
+use Rattle.std.proofs.shelf.Lists.{length-set, getD-set-same, getD-set-other, drop-all, drop-more}
+use Rattle.std.proofs.shelf.Maps.{nth-getD, nth-past}
+use Rattle.std.proofs.shelf.Tests.{cases-lt, eqb-true, eqb-false, or-parts}
 use Rattle.std.specs.Finite.{nth}
 use Rattle.std.specs.declared.option.Option.{Option}
 use Rattle.std.specs.declared.option.Option.the-variants.{Some, None}
-use Rattle.std.specs.declared.result.Result.{Result}
-use Rattle.std.specs.declared.result.Result.the-variants.{Ok, Err}
+
+-- the next element of a list, after some were taken, is the first of the rest
+next-some : {X : Type 0} (xs : List X) (i : ℕ) (x : X) → nth xs i ≡ Some x → drop i xs ≡ x ∷ drop (i + 1) xs
+next-some {X} xs i x e = go (cases-lt i (length xs))
+  where
+    go : (i < length xs) ⊎ (length xs ≤ i) → drop i xs ≡ x ∷ drop (i + 1) xs
+    go (inl l) =
+        let p = nth-getD xs i x l in
+        let q : getD xs i x ≡ x = cc in
+        drop-more xs i x l ∙ ap (λ (y : X). y ∷ drop (i + 1) xs) q
+    go (inr l) = let p = nth-past xs i l in absurd (let z : _≡_ {A = ℕ} 0 1 = cc in omega arith)
+
+-- with no next one the list is at its end
+next-none : {X : Type 0} (xs : List X) (i : ℕ) → nth xs i ≡ None → length xs ≤ i
+next-none [] i e = omega arith
+next-none (x ∷ xs) i e = go (cases-lt i (length (x ∷ xs)))
+  where
+    go : (i < length (x ∷ xs)) ⊎ (length (x ∷ xs) ≤ i) → length (x ∷ xs) ≤ i
+    go (inl l) = let p = nth-getD (x ∷ xs) i x l in absurd (let z : _≡_ {A = ℕ} 0 1 = cc in omega arith)
+    go (inr l) = l
 
 -- the threads with one of them in another phase
 abbrev entered : State → ℕ → Phase → Map Thread
@@ -240,17 +257,14 @@ module _ (ws : List ℕ) (base : ℕ) (w : World) (h : History) (beats : Table) 
 sealed-keeps : (ws : List ℕ) (base : ℕ) (w : World) (h : History) (beats : Table) (n : ℕ) → Fits ws base w h →
     is-thread (w .engine .set-up) n ≡ true → (p : Phase) → thread-of (w .engine) n .phase ≡ p →
     Kept ws base w h beats (Drain n) (drain-sealed w n p)
-sealed-keeps ws base w h beats n f inside Idle e = refused-keeps ws base w h beats (Drain n) WrongState f
-sealed-keeps ws base w h beats n f inside Running e = refused-keeps ws base w h beats (Drain n) WrongState f
+sealed-keeps ws base w h beats n f inside Idle e = refused-keeps ws base w h beats (Drain n) f WrongState
+sealed-keeps ws base w h beats n f inside Running e = refused-keeps ws base w h beats (Drain n) f WrongState
 sealed-keeps ws base w h beats n f inside (Sealed ticket drained) e =
     next-keeps ws base w h beats n ticket drained f inside e (nth (thread-of (w .engine) n .writes) drained) refl
-sealed-keeps ws base w h beats n f inside (Lost l) e = refused-keeps ws base w h beats (Drain n) WrongState f
+sealed-keeps ws base w h beats n f inside (Lost l) e = refused-keeps ws base w h beats (Drain n) f WrongState
 
 -- a drain is refused, or the next word is drained
 pub drain-keeps : Drain-keeps
-drain-keeps ws base w h beats n f = go (admitted (w .engine) Draining n) refl
-  where
-    go : (r : Result (Unit {0}) Refusal) → admitted (w .engine) Draining n ≡ r → Kept ws base w h beats (Drain n) (drain-admitted w n r)
-    go (Err r) e = refused-keeps ws base w h beats (Drain n) r f
-    go (Ok x) e =
-        sealed-keeps ws base w h beats n f (admitted-parts (w .engine) Draining n x e .inside) (thread-of (w .engine) n .phase) refl
+drain-keeps ws base w h beats n f =
+    admitted-or-refused ws base w h beats (Drain n) f Draining n (drain-admitted w n) (λ r. refl)
+    (λ x. sealed-keeps ws base w h beats n f (x .inside) (thread-of (w .engine) n .phase) refl)

@@ -1,6 +1,5 @@
 -- Calls that go on: one call more of a running transaction, after it may have beaten another one.
 use Prim.Native.Nat.{ℕ, _+_}
-use lib.Dec.{leb}
 use lib.ListN.{length}
 use mathlib.Core.Bool.{Bool, true, false, _||_}
 use mathlib.Core.List.{List}
@@ -31,7 +30,7 @@ use Rattle.rules.specs.declared.answer.Answer.{Answer}
 use Rattle.rules.specs.declared.call.Call.{Call}
 use Rattle.rules.specs.declared.phase.Phase.{Phase}
 use Rattle.rules.specs.declared.phase.Phase.the-variants.{Running, Lost}
-use Rattle.std.proofs.shelf.Tests.{and-parts, both-ways, cases-eq, leb-true, or-cases}
+use Rattle.std.proofs.shelf.Tests.{both-ways, cases-eq, or-cases}
 use Rattle.std.specs.declared.option.Option.{Option}
 use Rattle.std.specs.declared.option.Option.the-variants.{None}
 use Rattle.std.specs.shelf.Lists.{All}
@@ -161,11 +160,8 @@ module _ (ws : List ℕ) (base : ℕ) (w : World) (h : History) (beats : Table) 
   -- a leader is beaten by nobody
   leader-unbeaten : (k : ℕ) → (k ≡ caller c → ⊥) → beats (caller c) k ≡ true → leads beats k (w .engine .set-up .threads) ≡ true → ⊥
   leader-unbeaten k d wins led =
-      let p = and-parts (leb 1 (caller c)) (leb (caller c) (w .engine .set-up .threads)) (running-inside (f .seats (caller c)) run) in
       both-ways (beats (caller c) k)
-      (leader-beats beats k (caller c) (w .engine .set-up .threads) led (leb-true 1 (caller c) (p .0))
-      (leb-true (caller c) (w .engine .set-up .threads) (p .1)) (λ e. d (sym e)) .1)
-      wins
+      (leader-beats (w .engine .set-up) beats k (caller c) led (running-inside (f .seats (caller c)) run) (λ e. d (sym e)) .1) wins
 
   -- a thread that was beaten is lost, and its fall is on record; it did not lead, so it is spared nothing
   seat-beaten : (k : ℕ) (d : k ≡ caller c → ⊥) → Beaten-by beats (caller c) k (thread-of (w .engine) k) (at ts k) →

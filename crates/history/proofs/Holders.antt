@@ -1,15 +1,16 @@
 -- Which threads hold stripes, and what the front of a stripe shows of that.
 use Prim.Native.Nat.{ℕ}
 use lib.Dec.{eqb}
-use lib.ListN.{drop}
+use lib.ListN.{drop, length}
 use mathlib.Core.Bool.{false, not}
 use mathlib.Core.List.{List}
 use mathlib.Core.Logic.{_⊎_, inl, inr}
 use mathlib.Core.Path.{_≡_, refl, ap, sym, _∙_}
 use native.Mathlib.Omega.{arith}
-use Rattle.history.proofs.Invariant.{Draining, Fits, front, hold-in, hold-of}
-use Rattle.history.specs.Record.{History}
+use Rattle.history.proofs.Invariant.{Draining, Fits, Front, Stripe-fits, front, hold-in, hold-of}
+use Rattle.history.specs.Record.{History, Work}
 use Rattle.layout.specs.declared.entries.WriteEntry.{WriteEntry}
+use Rattle.layout.specs.declared.set_up.SetUp.{SetUp}
 use Rattle.rules.specs.Admission.{is-sealed}
 use Rattle.rules.specs.Conflicts.{busy, is-other, owner-of}
 use Rattle.rules.specs.Maps.{Map, at}
@@ -18,6 +19,14 @@ use Rattle.rules.specs.declared.phase.Phase.{Phase}
 use Rattle.rules.specs.declared.phase.Phase.the-variants.{Idle, Running, Sealed, Lost}
 use Rattle.std.proofs.shelf.Tests.{and-cases, and-right, eqb-true, not-false}
 use Rattle.std.specs.declared.option.Option.the-variants.{Some, None}
+
+-- a stripe at version 0 that no sealed thread holds
+abbrev pub bare-front : Front
+bare-front = record { version = 0; hold = None }
+
+-- it fits at the moment of a roll
+pub bare-fits : (u : SetUp) (us : List Work) (s : ℕ) → Stripe-fits u us (length us) 0 s bare-front
+bare-fits u us s = record { rises = omega arith; by-clock = omega arith; untouched = λ k low high. absurd (omega arith) }
 
 -- a thread in a phase that holds nothing
 pub hold-none : (t : Thread) (p : Phase) → t .phase ≡ p → hold-in (t .writes) p ≡ None → hold-of t ≡ None
@@ -48,6 +57,14 @@ unsealed-hold es Running e = refl
 unsealed-hold es (Sealed t d) e = absurd (let z : _≡_ {A = ℕ} 0 1 = cc in omega arith)
 unsealed-hold es (Lost l) e = refl
 
+-- who is not another thread is nobody or the thread itself
+pub not-other : (n o : ℕ) → is-other n o ≡ false → (o ≡ 0) ⊎ (o ≡ n)
+not-other n o e = go (and-cases (not (eqb o 0)) (not (eqb o n)) e)
+  where
+    go : (not (eqb o 0) ≡ false) ⊎ (not (eqb o n) ≡ false) → (o ≡ 0) ⊎ (o ≡ n)
+    go (inl p) = inl (eqb-true o 0 (not-false (eqb o 0) p))
+    go (inr p) = inr (eqb-true o n (not-false (eqb o n) p))
+
 module _ (ws : List ℕ) (base : ℕ) (w : World) (h : History) (n s : ℕ) (f : Fits ws base w h)
     (run : thread-of (w .engine) n .phase ≡ Running) where
   -- a stripe that is not busy for a running thread shows no hold
@@ -61,12 +78,12 @@ module _ (ws : List ℕ) (base : ℕ) (w : World) (h : History) (n s : ℕ) (f :
           hold-of (thread-of (w .engine) o) ≡ None
       holds-at k e p q x = ap (λ (j : ℕ). hold-of (thread-of (w .engine) j)) e ∙ hold-none (thread-of (w .engine) k) p q x
 
-      own : (not (eqb o 0) ≡ false) ⊎ (not (eqb o n) ≡ false) → hold-of (thread-of (w .engine) o) ≡ None
-      own (inl e) = holds-at 0 (eqb-true o 0 (not-false (eqb o 0) e)) Idle (f .seats 0 .inside refl) refl
-      own (inr e) = holds-at n (eqb-true o n (not-false (eqb o n) e)) Running run refl
+      own : (o ≡ 0) ⊎ (o ≡ n) → hold-of (thread-of (w .engine) o) ≡ None
+      own (inl e) = holds-at 0 e Idle (f .seats 0 .inside refl) refl
+      own (inr e) = holds-at n e Running run refl
 
       go : (is-other n o ≡ false) ⊎ (is-sealed (thread-of (w .engine) o .phase) ≡ false) → hold-of (thread-of (w .engine) o) ≡ None
-      go (inl e) = own (and-cases (not (eqb o 0)) (not (eqb o n)) e)
+      go (inl e) = own (not-other n o e)
       go (inr e) = hold-unsealed (thread-of (w .engine) o .writes) (thread-of (w .engine) o .phase) e
 
 -- a stripe that shows no hold is busy for nobody
@@ -95,5 +112,6 @@ held-by st n ticket drained s p e =
 pub free-not-draining : {st : State} {h : History} {k n : ℕ} (x : Draining st h k) → hold-of (thread-of st n) ≡ None → x .thread ≡ n → ⊥
 free-not-draining {st} {n = n} x free e =
     let p : thread-of st n .phase ≡ Sealed (x .ticket) (x .drained) = ap (λ (j : ℕ). thread-of st j .phase) (sym e) ∙ x .sealed in
-    let q : hold-in (thread-of st n .writes) (Sealed (x .ticket) (x .drained)) ≡ None = ap (hold-in (thread-of st n .writes)) (sym p) ∙ free in
+    let q : hold-in (thread-of st n .writes) (Sealed (x .ticket) (x .drained)) ≡ None =
+    ap (hold-in (thread-of st n .writes)) (sym p) ∙ free in
     let z : _≡_ {A = ℕ} 0 1 = cc in omega arith

@@ -32,24 +32,14 @@ one-number : (o : Option ℕ) (k p : ℕ) → o ≡ Some k → o ≡ Some p → 
 one-number o k p e i = cc
 
 module _ (ws : List ℕ) (base : ℕ) (w : World) (h : History) (f : Fits ws base w h) where
-  -- what is known of a sealed thread
-  abbrev Sealed-seat : ℕ → ℕ → ℕ → Type 0
-  Sealed-seat n k d =
-      Sealed-fits (w .engine .set-up) (h .updaters) base (owner-of (w .engine)) n k d (thread-of (w .engine) n) (h .present n .work) (h .present n .fall)
-
-  sealed-seat : (n k d : ℕ) → thread-of (w .engine) n .phase ≡ Sealed k d → Sealed-seat n k d
-  sealed-seat n k d e = sealed-fits (f .seats n) k d e
-
   -- what a sealed thread has left to drain is what its updater has not drained
   left-undrained : (n k d : ℕ) (e : thread-of (w .engine) n .phase ≡ Sealed k d) →
-      drop d (thread-of (w .engine) n .writes) ≡ not-drained (updater (h .updaters) (sealed-seat n k d e .place))
+      drop d (thread-of (w .engine) n .writes) ≡ not-drained (updater (h .updaters) (sealed-fits (f .seats n) k d e .place))
   left-undrained n k d e =
+      let x = sealed-fits (f .seats n) k d e in
       ap (λ (i : ℕ). drop i (thread-of (w .engine) n .writes)) (x .drains)
       ∙ ap (λ (es : List WriteEntry). drop (drain-count (h .present n .work .calls)) es) (x .log)
       ∙ ap not-drained (sym (x .same))
-    where
-      x : Sealed-seat n k d
-      x = sealed-seat n k d e
 
   -- the owner of the stripe of an address
   abbrev owner-at : ℕ → ℕ
@@ -62,10 +52,11 @@ module _ (ws : List ℕ) (base : ℕ) (w : World) (h : History) (f : Fits ws bas
     where
       owned : (x : Draining (w .engine) h k) → owner-at a ≡ x .thread
       owned x =
-          let s = sealed-seat (x .thread) (x .ticket) (x .drained) (x .sealed) in
+          let s = sealed-fits (f .seats (x .thread)) (x .ticket) (x .drained) (x .sealed) in
           let p : k ≡ s .place = one-number (h .present (x .thread) .work .number) k (s .place) (x .numbered) (s .numbered) in
           s .owns-log a (has-dropped address-of a (x .drained) (thread-of (w .engine) (x .thread) .writes)
-          (ap (has-address a) (left-undrained (x .thread) (x .ticket) (x .drained) (x .sealed) ∙ ap (λ (i : ℕ). not-drained (updater (h .updaters) i)) (sym p)) ∙ e))
+          (ap (has-address a) (left-undrained (x .thread) (x .ticket) (x .drained) (x .sealed)
+          ∙ ap (λ (i : ℕ). not-drained (updater (h .updaters) i)) (sym p)) ∙ e))
 
       go : Spent (w .engine) h k → (x : Draining (w .engine) h k) × (owner-at a ≡ x .thread)
       go (inl n) = absurd (both-ways (has-address a []) refl (ap (has-address a) (sym n) ∙ e))
@@ -85,8 +76,9 @@ module _ (ws : List ℕ) (base : ℕ) (w : World) (h : History) (f : Fits ws bas
       ∙ ap (λ (es : List WriteEntry). getD (put-in (w .words) es) a 0)
       (sym (ap (λ (p : Phase). left-of (hold-in (thread-of (w .engine) (owner-at a) .writes) p)) e ∙ left-undrained (owner-at a) k d e))
     where
-      x : Sealed-seat (owner-at a) k d
-      x = sealed-seat (owner-at a) k d e
+      x : Sealed-fits (w .engine .set-up) (h .updaters) base (owner-of (w .engine)) (owner-at a) k d (thread-of (w .engine) (owner-at a))
+          (h .present (owner-at a) .work) (h .present (owner-at a) .fall)
+      x = sealed-fits (f .seats (owner-at a)) k d e
 
       same-place : (i : ℕ) → (y : Draining (w .engine) h i) × (owner-at a ≡ y .thread) → i ≡ x .place
       same-place i y =
@@ -107,7 +99,8 @@ module _ (ws : List ℕ) (base : ℕ) (w : World) (h : History) (f : Fits ws bas
   undrained-word : (a : ℕ) → a < length (w .words) → Holder-drains a
   undrained-word a l = go (sealed-or-free (thread-of (w .engine) (owner-at a)))
     where
-      go : ((k : ℕ) × (d : ℕ) × (thread-of (w .engine) (owner-at a) .phase ≡ Sealed k d)) ⊎ (hold-of (thread-of (w .engine) (owner-at a)) ≡ None) → Holder-drains a
+      go : ((k : ℕ) × (d : ℕ) × (thread-of (w .engine) (owner-at a) .phase ≡ Sealed k d))
+          ⊎ (hold-of (thread-of (w .engine) (owner-at a)) ≡ None) → Holder-drains a
       go (inl x) = held-word a (x .0) (x .1) l (x .2)
       go (inr free) = free-word a free
 

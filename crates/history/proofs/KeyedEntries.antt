@@ -72,7 +72,7 @@ module _ {E : Type 0} (key : E → ℕ) where
       ap (λ (b : Bool). cond b (Some e) (first-with key k es)) (d .0) ∙ finds-none k es (d .1)
 
   -- a list has a key if one of its parts has it
-  pub has-append : (k : ℕ) (xs ys : List E) → has-key key k (xs ++ ys) ≡ (has-key key k xs || has-key key k ys)
+  has-append : (k : ℕ) (xs ys : List E) → has-key key k (xs ++ ys) ≡ (has-key key k xs || has-key key k ys)
   has-append k [] ys = refl
   has-append k (x ∷ xs) ys = go (eqb (key x) k) (has-append k xs ys)
     where

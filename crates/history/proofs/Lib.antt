@@ -17,7 +17,6 @@ pub mod Logs
 pub mod Losses
 pub mod Maps
 pub mod NewEngine
-pub mod Nexts
 pub mod Phases
 pub mod Plan
 pub mod Prefixes

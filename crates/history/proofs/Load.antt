@@ -9,7 +9,6 @@ use mathlib.Core.Path.{_≡_, refl, ap, sym, subst, _∙_}
 use native.Mathlib.Omega.{arith}
 use Rattle.common.specs.declared.loss.Loss.the-variants.{Invalid}
 use Rattle.common.specs.declared.refusal.Refusal.the-variants.{NoSuchPlace, LogFull, StripeBusy}
-use Rattle.common.specs.declared.refusal.Refusal.{Refusal}
 use Rattle.contention.specs.Events.{Event, word-loaded}
 use Rattle.history.proofs.GoingOn.{Left-or-beaten, goes-on-keeps}
 use Rattle.history.proofs.Holders.{free-hold}
@@ -18,11 +17,11 @@ use Rattle.history.proofs.KeyedEntries.{found-has, grown-roomy, has-before, ha
 use Rattle.history.proofs.Logs.{log-finds-kept}
 use Rattle.history.proofs.Losses.{lost-keeps}
 use Rattle.history.proofs.Maps.{at-put-same, at-put-other}
-use Rattle.history.proofs.Phases.{Admitted, admitted-parts, running-fits, running-phase}
+use Rattle.history.proofs.Phases.{Admitted, running-fits, running-phase}
 use Rattle.history.proofs.Plan.{Kept, Load-keeps}
 use Rattle.history.proofs.Quiet.{quiet-outcome}
 use Rattle.history.proofs.ReadLogs.{free-word-agrees, invalid-excuses, refresh-agrees}
-use Rattle.history.proofs.Refusals.{refused-keeps}
+use Rattle.history.proofs.Refusals.{admitted-or-refused, refused-keeps}
 use Rattle.history.proofs.Wins.{Refreshed, Won, contend-keeps, threaded, won-then}
 use Rattle.history.specs.Law.{Loads-at, words-at}
 use Rattle.history.specs.Record.{History, Work, Fall, called-load}
@@ -31,7 +30,6 @@ use Rattle.layout.specs.Lookups.{first-with, has-key}
 use Rattle.layout.specs.SetUps.{stripe-of}
 use Rattle.layout.specs.declared.entries.WriteEntry.{WriteEntry}
 use Rattle.layout.specs.declared.set_up.SetUp.{SetUp}
-use Rattle.rules.specs.Admission.{admitted}
 use Rattle.rules.specs.Conflicts.{busy, first-invalid, owner-of, recheck, rechecked, refresh}
 use Rattle.rules.specs.Load.{grown, has-read, is-full, load-admitted, load-free, load-fresh, load-logged, load-placed, load-roomy, load-won, written}
 use Rattle.rules.specs.Maps.{Map, at, put}
@@ -45,8 +43,6 @@ use Rattle.std.proofs.shelf.Elements.{all-push, all-weaker}
 use Rattle.std.proofs.shelf.Tests.{ltb-false, ltb-true}
 use Rattle.std.specs.declared.option.Option.the-variants.{Some, None}
 use Rattle.std.specs.declared.option.Option.{Option}
-use Rattle.std.specs.declared.result.Result.the-variants.{Ok, Err}
-use Rattle.std.specs.declared.result.Result.{Result}
 use Rattle.std.specs.shelf.Lists.{All}
 
 -- words that are equal wherever the read log looks
@@ -211,7 +207,7 @@ module _ (ws : List ℕ) (base : ℕ) (w : World) (h : History) (beats : Table) 
     won-keeps false e roomy ts es won = noted-keeps ts es roomy won
 
     -- from the snapshot end on: the meeting, then the word
-    pub fresh-keeps : (known : Bool) → has-read (thread-of (w .engine) n) s ≡ known →
+    fresh-keeps : (known : Bool) → has-read (thread-of (w .engine) n) s ≡ known →
         (not known && is-full (thread-of (w .engine) n .reads)) ≡ false → (ts : Map Thread) → Refreshed (w .engine) n end ts →
         (es : List Event) → Kept ws base w h beats (Load n a) (load-fresh beats w n a s known (goes (threaded (w .engine) ts) es))
     fresh-keeps known e roomy ts r es =
@@ -288,7 +284,7 @@ module _ (ws : List ℕ) (base : ℕ) (w : World) (h : History) (beats : Table) 
 
     -- the stripe is busy or not
     free-keeps : (b : Bool) → busy (w .engine) n loaded-stripe ≡ b → Kept ws base w h beats (Load n a) (load-free beats w n a loaded-stripe known b)
-    free-keeps true p = refused-keeps ws base w h beats (Load n a) StripeBusy f
+    free-keeps true p = refused-keeps ws base w h beats (Load n a) f StripeBusy
     free-keeps false p = refresh-keeps (free-hold ws base w h n loaded-stripe f run p)
 
   -- the read log has room for it or not
@@ -296,7 +292,7 @@ module _ (ws : List ℕ) (base : ℕ) (w : World) (h : History) (beats : Table) 
       written (thread-of (w .engine) n) a ≡ None → (known : Bool) → has-read (thread-of (w .engine) n) loaded-stripe ≡ known →
       (b : Bool) → (not known && is-full (thread-of (w .engine) n .reads)) ≡ b →
       Kept ws base w h beats (Load n a) (load-roomy beats w n a loaded-stripe known b)
-  roomy-keeps run inside logless known e true p = refused-keeps ws base w h beats (Load n a) LogFull f
+  roomy-keeps run inside logless known e true p = refused-keeps ws base w h beats (Load n a) f LogFull
   roomy-keeps run inside logless known e false p =
       free-keeps run inside logless known e p (busy (w .engine) n loaded-stripe) refl
 
@@ -310,17 +306,13 @@ module _ (ws : List ℕ) (base : ℕ) (w : World) (h : History) (beats : Table) 
 
   -- there is such an address or not
   placed-keeps : Admitted (w .engine) Loading n → (b : Bool) → ltb a (length (w .words)) ≡ b → Kept ws base w h beats (Load n a) (load-placed beats w n a b)
-  placed-keeps x false p = refused-keeps ws base w h beats (Load n a) NoSuchPlace f
+  placed-keeps x false p = refused-keeps ws base w h beats (Load n a) f NoSuchPlace
   placed-keeps x true p =
       logged-keeps (running-phase (thread-of (w .engine) n .phase) (x .fits)) (ltb-true a (length (w .words)) p)
       (written (thread-of (w .engine) n) a) refl
 
-  -- the thread may load or not
-  admitted-keeps : (r : Result (Unit {0}) Refusal) → admitted (w .engine) Loading n ≡ r → Kept ws base w h beats (Load n a) (load-admitted beats w n a r)
-  admitted-keeps (Err r) p = refused-keeps ws base w h beats (Load n a) r f
-  admitted-keeps (Ok x) p = placed-keeps (admitted-parts (w .engine) Loading n x p) (ltb a (length (w .words))) refl
-
--- a load keeps everything, whatever it meets
+-- a load is refused, or it keeps everything whatever it meets
 pub load-keeps : Load-keeps
 load-keeps ws base w h beats n a f =
-    admitted-keeps ws base w h beats n a f (admitted (w .engine) Loading n) refl
+    admitted-or-refused ws base w h beats (Load n a) f Loading n (load-admitted beats w n a) (λ r. refl)
+    (λ x. placed-keeps ws base w h beats n a f x (ltb a (length (w .words))) refl)

@@ -1,5 +1,6 @@
 -- What a thread's state says of its transaction, and what an admitted call says of the state.
-use Prim.Native.Nat.{ℕ}
+use Prim.Native.Nat.{ℕ, _≤_}
+use lib.Dec.{leb}
 use mathlib.Core.Bool.{Bool, true, false, cond, _&&_}
 use mathlib.Core.List.{List}
 use mathlib.Core.Logic.{_⊎_, inl, inr}
@@ -16,7 +17,7 @@ use Rattle.rules.specs.States.{State, Thread, thread-of}
 use Rattle.rules.specs.declared.kind.Kind.{Kind}
 use Rattle.rules.specs.declared.phase.Phase.{Phase}
 use Rattle.rules.specs.declared.phase.Phase.the-variants.{Idle, Running, Sealed, Lost}
-use Rattle.std.proofs.shelf.Tests.{both-ways, cases-bool}
+use Rattle.std.proofs.shelf.Tests.{and-parts, both-ways, cases-bool, leb-true}
 use Rattle.std.specs.declared.result.Result.{Result}
 use Rattle.std.specs.declared.result.Result.the-variants.{Ok, Err}
 
@@ -62,6 +63,12 @@ idle-phase (Lost l) e = absurd (let z : _≡_ {A = ℕ} 0 1 = cc in omega arith)
 -- a thread of the set-up is not 0
 pub thread-not-zero : (u : SetUp) (n : ℕ) → is-thread u n ≡ true → n ≡ 0 → ⊥
 thread-not-zero u n e z = both-ways (is-thread u n) (ap (is-thread u) z) e
+
+-- and its number is one from 1 to the number of threads
+pub thread-bounds : (u : SetUp) (n : ℕ) → is-thread u n ≡ true → (1 ≤ n) × (n ≤ u .threads)
+thread-bounds u n e =
+    let p = and-parts (leb 1 n) (leb n (u .threads)) e in
+    (leb-true 1 n (p .0), leb-true n (u .threads) (p .1))
 
 module _ {u : SetUp} {ws : List ℕ} {us : List Work} {base : ℕ} {fs : ℕ → Front} {owner : ℕ → ℕ} {n : ℕ} {t : Thread} {x : Transaction}
     (s : Seat u ws us base fs owner n t x) where

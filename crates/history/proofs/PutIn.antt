@@ -51,7 +51,7 @@ put-in-length xs [] = refl
 put-in-length xs (e ∷ es) = put-in-length (written-in xs e) es ∙ length-set xs (e .address) (e .word)
 
 -- entries in two parts go in one part after the other
-pub put-in-append : (ws : List ℕ) (xs ys : List WriteEntry) → put-in ws (xs ++ ys) ≡ put-in (put-in ws xs) ys
+put-in-append : (ws : List ℕ) (xs ys : List WriteEntry) → put-in ws (xs ++ ys) ≡ put-in (put-in ws xs) ys
 put-in-append ws [] ys = refl
 put-in-append ws (x ∷ xs) ys = put-in-append (written-in ws x) xs ys
 

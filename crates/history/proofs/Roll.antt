@@ -1,6 +1,5 @@
 -- What a roll keeps.
 use Prim.Native.Nat.{ℕ, zero, suc, _<_, _≤_}
-use lib.Dec.{leb}
 use lib.ListN.{length, getD}
 use mathlib.Core.Bool.{Bool, true, false}
 use mathlib.Core.List.{List, []}
@@ -8,11 +7,11 @@ use mathlib.Core.Logic.{_⊎_, inl, inr}
 use mathlib.Core.Path.{_≡_, refl, ap, sym, subst, _∙_, fun-ext}
 use native.Mathlib.Omega.{arith}
 use Rattle.common.specs.declared.refusal.Refusal.the-variants.{RollNotDue, ThreadsActive}
-use Rattle.history.proofs.Holders.{free-not-draining, hold-none}
+use Rattle.history.proofs.Holders.{bare-fits, bare-front, free-not-draining, hold-none}
 use Rattle.history.proofs.Invariant.{Fits, Front, Phase-fits, Seat, Spent, Stripe-fits, Word-fits, front, hold-of, left-of}
 use Rattle.history.proofs.Lines.{leads-at, present-caller}
 use Rattle.history.proofs.Maps.{at-each}
-use Rattle.history.proofs.Phases.{idle-fits, idle-phase}
+use Rattle.history.proofs.Phases.{idle-fits, idle-phase, thread-bounds}
 use Rattle.history.proofs.Plan.{Kept, Roll-keeps, then}
 use Rattle.history.proofs.Refusals.{refused-keeps}
 use Rattle.history.proofs.Seats.{seat-other, seat-watched}
@@ -29,7 +28,7 @@ use Rattle.rules.specs.declared.answer.Answer.the-variants.{Done}
 use Rattle.rules.specs.declared.call.Call.the-variants.{Roll}
 use Rattle.rules.specs.declared.phase.Phase.{Phase}
 use Rattle.rules.specs.declared.phase.Phase.the-variants.{Idle}
-use Rattle.std.proofs.shelf.Tests.{and-parts, cases-bool, cases-eq, cases-order, leb-true}
+use Rattle.std.proofs.shelf.Tests.{and-parts, cases-bool, cases-eq, cases-order}
 use Rattle.std.specs.declared.option.Option.the-variants.{None}
 
 -- where the threads up to a number are idle, each of them is
@@ -46,10 +45,6 @@ idle-each st (suc t) n e low high = go (λ l. idle-each st t n (parts .1) low l)
     go before (inr (inl l)) = before (omega arith)
     go before (inr (inr l)) = absurd (omega arith)
 
--- a stripe at version 0 that no sealed thread holds
-abbrev rolled-front : Front
-rolled-front = record { version = 0; hold = None }
-
 module _ (ws : List ℕ) (base : ℕ) (w : World) (h : History) (beats : Table) (f : Fits ws base w h)
     (idle : idle-to (w .engine) (w .engine .set-up .threads) ≡ true) where
   -- the line of the roll, and the history with it
@@ -65,8 +60,8 @@ module _ (ws : List ℕ) (base : ℕ) (w : World) (h : History) (beats : Table) 
     where
       go : (is-thread (w .engine .set-up) n ≡ true) ⊎ (is-thread (w .engine .set-up) n ≡ false) → thread-of (w .engine) n .phase ≡ Idle
       go (inl e) =
-          let p = and-parts (leb 1 n) (leb n (w .engine .set-up .threads)) e in
-          idle-each (w .engine) (w .engine .set-up .threads) n idle (leb-true 1 n (p .0)) (leb-true n (w .engine .set-up .threads) (p .1))
+          let b = thread-bounds (w .engine .set-up) n e in
+          idle-each (w .engine) (w .engine .set-up .threads) n idle (b .0) (b .1)
       go (inr e) = f .seats n .inside e
 
   -- so no thread holds anything
@@ -77,7 +72,7 @@ module _ (ws : List ℕ) (base : ℕ) (w : World) (h : History) (beats : Table) 
   rolled-owner : (s : ℕ) → owner-of (rolled (w .engine)) s ≡ owner-of (w .engine) s
   rolled-owner s = ap (λ (x : Stripe). x .owner) (at-each rolled-stripe (w .engine .stripes) s)
 
-  rolled-fronts : (s : ℕ) → front (rolled (w .engine)) s ≡ rolled-front
+  rolled-fronts : (s : ℕ) → front (rolled (w .engine)) s ≡ bare-front
   rolled-fronts s = λ i. record {
     version = ap (λ (x : Stripe). x .version) (at-each rolled-stripe (w .engine .stripes) s) i;
     hold = all-free (owner-of (rolled (w .engine)) s) i;
@@ -133,7 +128,7 @@ module _ (ws : List ℕ) (base : ℕ) (w : World) (h : History) (beats : Table) 
       count = omega arith;
       stripes = λ s.
           subst (λ (x : Front). Stripe-fits (w .engine .set-up) (h .updaters) (length (h .updaters)) 0 s x) (sym (rolled-fronts s))
-          (record { rises = omega arith; by-clock = omega arith; untouched = λ k low high. absurd (omega arith) });
+          (bare-fits (w .engine .set-up) (h .updaters) s);
       words = rolled-word;
       seats = λ n. rolled-seat n (cases-eq n 0);
       spent = λ k l. rolled-spent k (f .spent k l);
@@ -148,9 +143,9 @@ pub roll-keeps : Roll-keeps
 roll-keeps ws base w h beats f = due (w .engine .mark)
   where
     still : (b : Bool) → idle-to (w .engine) (w .engine .set-up .threads) ≡ b → (next : ℕ) × Kept ws next w h beats Roll (roll-idle w b)
-    still false e = (base, refused-keeps ws base w h beats Roll ThreadsActive f)
+    still false e = (base, refused-keeps ws base w h beats Roll f ThreadsActive)
     still true e = (length (h .updaters), roll-rolls ws base w h beats f e)
 
     due : (b : Bool) → (next : ℕ) × Kept ws next w h beats Roll (roll-due w b)
-    due false = (base, refused-keeps ws base w h beats Roll RollNotDue f)
+    due false = (base, refused-keeps ws base w h beats Roll f RollNotDue)
     due true = still (idle-to (w .engine) (w .engine .set-up .threads)) refl

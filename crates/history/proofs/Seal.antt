@@ -8,7 +8,6 @@ use mathlib.Core.Path.{_≡_, refl, ap, sym, subst, _∙_}
 use native.Mathlib.Omega.{arith}
 use Rattle.common.specs.declared.loss.Loss.{Loss}
 use Rattle.common.specs.declared.loss.Loss.the-variants.{Invalid, ClockSpent}
-use Rattle.common.specs.declared.refusal.Refusal.{Refusal}
 use Rattle.contention.specs.Events.{seal-of}
 use Rattle.history.proofs.Alone.{alone-keeps}
 use Rattle.history.proofs.Growth.{point-alike}
@@ -17,19 +16,19 @@ use Rattle.history.proofs.Invariant.{Fits, Seated, hold-of}
 use Rattle.history.proofs.Logs.{stored-logged}
 use Rattle.history.proofs.Losses.{lost-keeps}
 use Rattle.history.proofs.Maps.{at-put-same, at-put-other}
-use Rattle.history.proofs.Phases.{admitted-parts, running-fits, running-phase}
+use Rattle.history.proofs.Phases.{running-fits, running-phase}
 use Rattle.history.proofs.Plan.{Kept, Seal-keeps}
 use Rattle.history.proofs.PutIn.{has-address}
 use Rattle.history.proofs.Quiet.{quiet-state}
 use Rattle.history.proofs.ReadLogs.{invalid-excuses, refresh-agrees}
-use Rattle.history.proofs.Refusals.{refused-keeps}
+use Rattle.history.proofs.Refusals.{admitted-or-refused}
 use Rattle.history.proofs.UpdaterSeal.{ticketed, updater-keeps}
 use Rattle.history.specs.Law.{Excused, Loads-at, Spared}
 use Rattle.history.specs.Record.{History, Transaction, Fall, called, fallen, leads, rewritten, watched, with-work}
 use Rattle.history.specs.Runs.{loss-in}
 use Rattle.history.specs.Serial.{write-log}
 use Rattle.layout.specs.declared.entries.WriteEntry.{WriteEntry}
-use Rattle.rules.specs.Admission.{admitted, is-thread}
+use Rattle.rules.specs.Admission.{is-thread}
 use Rattle.rules.specs.Conflicts.{first-invalid, owner-of, rechecked}
 use Rattle.rules.specs.Maps.{at, put}
 use Rattle.rules.specs.Outcomes.{Table, lost}
@@ -44,8 +43,6 @@ use Rattle.std.proofs.shelf.Lists.{nil-from-length}
 use Rattle.std.proofs.shelf.Tests.{both-ways, eqb-true}
 use Rattle.std.specs.declared.option.Option.{Option}
 use Rattle.std.specs.declared.option.Option.the-variants.{Some, None}
-use Rattle.std.specs.declared.result.Result.{Result}
-use Rattle.std.specs.declared.result.Result.the-variants.{Ok, Err}
 
 module _ (ws : List ℕ) (base : ℕ) (w : World) (h : History) (beats : Table) (n : ℕ) (f : Fits ws base w h)
     (inside : is-thread (w .engine .set-up) n ≡ true) (running : thread-of (w .engine) n .phase ≡ Running) where
@@ -143,11 +140,7 @@ module _ (ws : List ℕ) (base : ℕ) (w : World) (h : History) (beats : Table) 
 
 -- a seal is refused, or it keeps the invariant whatever it finds
 pub seal-keeps : Seal-keeps
-seal-keeps ws base w h beats n f = go (admitted (w .engine) Sealing n) refl
-  where
-    go : (r : Result (Unit {0}) Refusal) → admitted (w .engine) Sealing n ≡ r → Kept ws base w h beats (Seal n) (seal-admitted w n r)
-    go (Err r) e = refused-keeps ws base w h beats (Seal n) r f
-    go (Ok x) e =
-        let a = admitted-parts (w .engine) Sealing n x e in
-        updates-keeps ws base w h beats n f (a .inside) (running-phase (thread-of (w .engine) n .phase) (a .fits))
-        (eqb (length (thread-of (w .engine) n .writes)) 0) refl
+seal-keeps ws base w h beats n f =
+    admitted-or-refused ws base w h beats (Seal n) f Sealing n (seal-admitted w n) (λ r. refl)
+    (λ x. updates-keeps ws base w h beats n f (x .inside) (running-phase (thread-of (w .engine) n .phase) (x .fits))
+    (eqb (length (thread-of (w .engine) n .writes)) 0) refl)

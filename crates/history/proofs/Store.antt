@@ -7,17 +7,16 @@ use mathlib.Core.List.{List, [], _∷_, _++_}
 use mathlib.Core.Logic.{_⊎_, inl, inr}
 use mathlib.Core.Path.{_≡_, refl, ap, sym, subst, _∙_}
 use Rattle.common.specs.declared.refusal.Refusal.the-variants.{NoSuchPlace, LogFull, StripeBusy}
-use Rattle.common.specs.declared.refusal.Refusal.{Refusal}
 use Rattle.contention.specs.Events.{Event, stripe-taken}
 use Rattle.history.proofs.GoingOn.{Left-or-beaten, Taken-by, goes-on-keeps}
 use Rattle.history.proofs.Holders.{free-hold}
 use Rattle.history.proofs.Invariant.{Fits, Front, Running-fits, front, stores-in}
 use Rattle.history.proofs.KeyedEntries.{found-has, grown-roomy, has-replaced, pushed-cases}
 use Rattle.history.proofs.Maps.{at-put-same, at-put-other}
-use Rattle.history.proofs.Phases.{Admitted, admitted-parts, running-fits, running-phase}
+use Rattle.history.proofs.Phases.{Admitted, running-fits, running-phase}
 use Rattle.history.proofs.Plan.{Kept, Store-keeps}
 use Rattle.history.proofs.Quiet.{quiet-outcome, quiet-state}
-use Rattle.history.proofs.Refusals.{refused-keeps}
+use Rattle.history.proofs.Refusals.{admitted-or-refused, refused-keeps}
 use Rattle.history.proofs.Wins.{Won, contend-keeps, threaded, won-then}
 use Rattle.history.specs.Record.{History, Work, Fall, called}
 use Rattle.history.specs.Serial.{write-log}
@@ -25,7 +24,7 @@ use Rattle.layout.specs.Lookups.{has-key, replaced}
 use Rattle.layout.specs.SetUps.{stripe-of}
 use Rattle.layout.specs.declared.entries.WriteEntry.{WriteEntry}
 use Rattle.layout.specs.declared.set_up.SetUp.{SetUp}
-use Rattle.rules.specs.Admission.{admitted, is-running}
+use Rattle.rules.specs.Admission.{is-running}
 use Rattle.rules.specs.Conflicts.{busy, owner-of}
 use Rattle.rules.specs.Load.{grown, is-full}
 use Rattle.rules.specs.Maps.{Map, at, put}
@@ -39,8 +38,6 @@ use Rattle.rules.specs.declared.phase.Phase.the-variants.{Running}
 use Rattle.std.proofs.shelf.Tests.{cases-eq, cond-false, cond-true, eq-eqb, eqb-true, or-left, or-right}
 use Rattle.std.specs.declared.option.Option.the-variants.{None}
 use Rattle.std.specs.declared.option.Option.{Option}
-use Rattle.std.specs.declared.result.Result.the-variants.{Ok, Err}
-use Rattle.std.specs.declared.result.Result.{Result}
 
 -- what is left to show of a transaction that stored: its log is the one that its stores make, of the addresses that it
 -- had and the new one, and of stripes it gained at most that of the new one
@@ -240,7 +237,7 @@ module _ (ws : List ℕ) (base : ℕ) (w : World) (h : History) (beats : Table)
     free-keeps : has-written (thread-of (w .engine) n) a ≡ false → is-full (thread-of (w .engine) n .writes) ≡ false →
         (b : Bool) → busy (w .engine) n (stripe-of (w .engine .set-up) a) ≡ b →
         Kept ws base w h beats (Store n a v) (store-free beats w n a v (stripe-of (w .engine .set-up) a) b)
-    free-keeps fresh roomy true p = refused-keeps ws base w h beats (Store n a v) StripeBusy f
+    free-keeps fresh roomy true p = refused-keeps ws base w h beats (Store n a v) f StripeBusy
     free-keeps fresh roomy false p =
         contend-keeps ws base w h beats (Store n a v) (stripe-of (w .engine .set-up) a) (thread-of (w .engine) n .snapshot)
         (w .engine .threads) f run (record { own = refl; others = λ k d. refl }) (store-won w n a v (stripe-of (w .engine .set-up) a)) (λ l st. refl)
@@ -250,7 +247,7 @@ module _ (ws : List ℕ) (base : ℕ) (w : World) (h : History) (beats : Table)
     -- the write log has room or not
     roomy-keeps : has-written (thread-of (w .engine) n) a ≡ false → (b : Bool) → is-full (thread-of (w .engine) n .writes) ≡ b →
         Kept ws base w h beats (Store n a v) (store-roomy beats w n a v (stripe-of (w .engine .set-up) a) b)
-    roomy-keeps fresh true p = refused-keeps ws base w h beats (Store n a v) LogFull f
+    roomy-keeps fresh true p = refused-keeps ws base w h beats (Store n a v) f LogFull
     roomy-keeps fresh false p = free-keeps fresh p (busy (w .engine) n (stripe-of (w .engine .set-up) a)) refl
 
     -- the address is in the write log or not
@@ -260,16 +257,12 @@ module _ (ws : List ℕ) (base : ℕ) (w : World) (h : History) (beats : Table)
 
   -- there is such an address or not
   placed-keeps : Admitted (w .engine) Storing n → (b : Bool) → Kept ws base w h beats (Store n a v) (store-placed beats w n a v b)
-  placed-keeps x false = refused-keeps ws base w h beats (Store n a v) NoSuchPlace f
+  placed-keeps x false = refused-keeps ws base w h beats (Store n a v) f NoSuchPlace
   placed-keeps x true =
       entry-keeps (running-phase (thread-of (w .engine) n .phase) (x .fits)) (has-written (thread-of (w .engine) n) a) refl
 
-  -- the thread may store or not
-  admitted-keeps : (r : Result (Unit {0}) Refusal) → admitted (w .engine) Storing n ≡ r → Kept ws base w h beats (Store n a v) (store-admitted beats w n a v r)
-  admitted-keeps (Err r) p = refused-keeps ws base w h beats (Store n a v) r f
-  admitted-keeps (Ok x) p = placed-keeps (admitted-parts (w .engine) Storing n x p) (ltb a (length (w .words)))
-
--- a store keeps everything, whatever it meets
+-- a store is refused, or it keeps everything whatever it meets
 pub store-keeps : Store-keeps
 store-keeps ws base w h beats n a v f =
-    admitted-keeps ws base w h beats n a v f (admitted (w .engine) Storing n) refl
+    admitted-or-refused ws base w h beats (Store n a v) f Storing n (store-admitted beats w n a v) (λ r. refl)
+    (λ x. placed-keeps ws base w h beats n a v f x (ltb a (length (w .words))))
