@@ -39,6 +39,7 @@ use Rattle.std.specs.declared.option.Option.the-variants.{Some, None}
 abbrev pub drained-engine : World → Map Stripe → Map Thread → State
 drained-engine w ss ts = quiet-state (w .engine) (w .engine .mark) ss ts
 
+-- the outcome of a drain that leaves them and these words, with so many left to drain
 abbrev pub drained-outcome : World → ℕ → List ℕ → Map Stripe → Map Thread → Outcome
 drained-outcome w j now ss ts = record { answer = Left j; told = []; after = record { engine = drained-engine w ss ts; words = now } }
 

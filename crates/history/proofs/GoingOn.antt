@@ -144,7 +144,8 @@ module _ (ws : List ℕ) (base : ℕ) (w : World) (h : History) (beats : Table) 
       go (inr y) = absurd (was y (or-cases (is-running (thread-of (w .engine) k .phase)) (is-sealed (thread-of (w .engine) k .phase)) busy))
 
   -- a thread that is as it was is apart from the call, and so keeps its seat
-  seat-left : (k : ℕ) (d : k ≡ caller c → ⊥) → at ts k ≡ thread-of (w .engine) k → Seated ws base w h (owner-of after) k (at ts k) (next .present k)
+  seat-left : (k : ℕ) → (k ≡ caller c → ⊥) → at ts k ≡ thread-of (w .engine) k →
+      Seated ws base w h (owner-of after) k (at ts k) (next .present k)
   seat-left k d same =
       seat-other h line d refl
       (subst (λ (t : Thread). Seated ws base w h (owner-of after) k t (h .present k)) (sym same)
@@ -164,12 +165,13 @@ module _ (ws : List ℕ) (base : ℕ) (w : World) (h : History) (beats : Table) 
       (leader-beats (w .engine .set-up) beats k (caller c) led (running-inside (f .seats (caller c)) run) (λ e. d (sym e)) .1) wins
 
   -- a thread that was beaten is lost, and its fall is on record; it did not lead, so it is spared nothing
-  seat-beaten : (k : ℕ) (d : k ≡ caller c → ⊥) → Beaten-by beats (caller c) k (thread-of (w .engine) k) (at ts k) →
+  seat-beaten : (k : ℕ) → (k ≡ caller c → ⊥) → Beaten-by beats (caller c) k (thread-of (w .engine) k) (at ts k) →
       Seated ws base w h (owner-of after) k (at ts k) (next .present k)
   seat-beaten k d b =
       subst (λ (y : Transaction). Seated ws base w h (owner-of after) k (at ts k) y)
       (sym (present-other (w .engine .set-up) h line k d
-      ∙ ap (λ (p : Phase). fallen (length (h .updaters)) (watched (leads-at (w .engine .set-up) line k) (h .present k)) (loss-in p)) (b .stolen)))
+      ∙ ap (λ (p : Phase). fallen (length (h .updaters)) (watched (leads-at (w .engine .set-up) line k) (h .present k)) (loss-in p))
+      (b .stolen)))
       (seat-lost (h .present k) (Stolen (caller c)) (length (h .updaters)) (leads-at (w .engine .set-up) line k) (f .seats k)
       (b .ran) (b .stolen) (λ led. leader-unbeaten k d (b .beaten) led))
 

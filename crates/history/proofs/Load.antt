@@ -12,12 +12,13 @@ use Rattle.common.specs.declared.refusal.Refusal.the-variants.{NoSuchPlace, Log
 use Rattle.contention.specs.Events.{Event, word-loaded}
 use Rattle.history.proofs.GoingOn.{Left-or-beaten, goes-on-keeps}
 use Rattle.history.proofs.Holders.{free-hold}
-use Rattle.history.proofs.Invariant.{Fits, Front, Mark-fits, Running-fits, front}
+use Rattle.history.proofs.Invariant.{Marked, Runs-on, Same-read, has-stripe, Fits, Front, Mark-fits, Running-fits, front}
 use Rattle.history.proofs.KeyedEntries.{found-has, grown-roomy, has-before, has-pushed}
 use Rattle.history.proofs.Logs.{log-finds-kept}
 use Rattle.history.proofs.Losses.{lost-keeps}
 use Rattle.history.proofs.Maps.{at-put-same, at-put-other}
 use Rattle.history.proofs.Phases.{Admitted, running-fits, running-phase}
+use Rattle.history.proofs.PutIn.{address-of}
 use Rattle.history.proofs.Plan.{Kept, Load-keeps}
 use Rattle.history.proofs.Quiet.{quiet-outcome}
 use Rattle.history.proofs.ReadLogs.{free-word-agrees, invalid-excuses, refresh-agrees}
@@ -26,7 +27,7 @@ use Rattle.history.proofs.Wins.{Refreshed, Won, contend-keeps, threaded, won-t
 use Rattle.history.specs.Law.{Loads-at, words-at}
 use Rattle.history.specs.Record.{History, Work, Fall, called-load}
 use Rattle.history.specs.Serial.{kept, seen, word-or}
-use Rattle.layout.specs.Lookups.{first-with, has-key}
+use Rattle.layout.specs.Lookups.{first-with}
 use Rattle.layout.specs.SetUps.{stripe-of}
 use Rattle.layout.specs.declared.entries.WriteEntry.{WriteEntry}
 use Rattle.layout.specs.declared.set_up.SetUp.{SetUp}
@@ -45,10 +46,6 @@ use Rattle.std.specs.declared.option.Option.the-variants.{Some, None}
 use Rattle.std.specs.declared.option.Option.{Option}
 use Rattle.std.specs.shelf.Lists.{All}
 
--- words that are equal wherever the read log looks
-abbrev Same-read : SetUp → List ReadMark → List ℕ → List ℕ → Type 0
-Same-read u rs xs ys = (a : ℕ) → has-key (λ e. e .stripe) (stripe-of u a) rs ≡ true → getD xs a 0 ≡ getD ys a 0
-
 -- a thread with another snapshot end and read log
 abbrev read-on : Thread → ℕ → List ReadMark → Thread
 read-on t end rs = record { phase = t .phase; snapshot = end; reads = rs; writes = t .writes }
@@ -62,7 +59,7 @@ record Answered (u : SetUp) (ws : List ℕ) (us : List Work) (base : ℕ) (fs : 
   loads : Loads-at ws us (base + end) w
   here : seen (words-at ws us (base + end)) (kept (w .calls)) a ≡ v
   only : (xs ys : List ℕ) → Same-read u rs xs ys → seen xs (kept (w .calls)) a ≡ seen ys (kept (w .calls)) a
-  more : (s : ℕ) → has-key (λ e. e .stripe) s (t .reads) ≡ true → has-key (λ e. e .stripe) s rs ≡ true
+  more : (s : ℕ) → has-stripe s (t .reads) ≡ true → has-stripe s rs ≡ true
   marks : All (λ e. Mark-fits u us n (w .begun) end (fs (e .stripe)) e) rs
 
 -- such a transaction runs on, with one loaded word more
@@ -102,7 +99,8 @@ module _ (ws : List ℕ) (base : ℕ) (w : World) (h : History) (beats : Table) 
         others = others;
         stripes = λ s. inl refl;
         running = ap (λ (t : Thread). t .phase) own ∙ run;
-        fits = subst (λ (t : Thread). Running-fits (w .engine .set-up) ws (h .updaters) base (front (w .engine)) (owner-of (w .engine)) n t
+        fits =
+            subst (λ (t : Thread). Runs-on ws base w h (owner-of (w .engine)) n t
             (called-load (Load n a) (length (h .updaters)) v (h .present n .work)) (h .present n .fall)) (sym own)
             (answered-fits (w .engine .set-up) ws (h .updaters) base (front (w .engine)) (owner-of (w .engine)) n a v end
             (thread-of (w .engine) n) (h .present n .work) (h .present n .fall) rs (running-fits (f .seats n) run) x);
@@ -110,30 +108,28 @@ module _ (ws : List ℕ) (base : ℕ) (w : World) (h : History) (beats : Table) 
 
   -- what the write log finds is what the transaction kept
   finds-kept : (o : Option WriteEntry) → written (thread-of (w .engine) n) a ≡ o →
-      first-with (λ e. e .address) a (kept (h .present n .work .calls)) ≡ o
+      first-with address-of a (kept (h .present n .work .calls)) ≡ o
   finds-kept o e =
       sym (log-finds-kept (h .present n .work .calls) a)
-      ∙ ap (first-with (λ (y : WriteEntry). y .address) a) (sym (running-fits (f .seats n) run .log)) ∙ e
+      ∙ ap (first-with address-of a) (sym (running-fits (f .seats n) run .log)) ∙ e
 
   -- a load from the own log
   own-log-keeps : (e : WriteEntry) → written (thread-of (w .engine) n) a ≡ Some e →
       Kept ws base w h beats (Load n a) (load-logged beats w n a (Some e))
   own-log-keeps e found =
-      answered-keeps (e .word) (thread-of (w .engine) n .snapshot) (thread-of (w .engine) n .reads) (word-loaded n ∷ []) (w .engine .threads) refl
-      (λ k d. inl refl)
+      let r = running-fits (f .seats n) run in
+      answered-keeps (e .word) (thread-of (w .engine) n .snapshot) (thread-of (w .engine) n .reads) (word-loaded n ∷ [])
+      (w .engine .threads) refl (λ k d. inl refl)
       (record {
         later = omega arith;
         so-far = omega (arith, r .by-last-load, r .so-far);
         loads = r .loads;
         here = ap (word-or _) (finds-kept (Some e) found);
-        only = λ xs ys same. ap (word-or (getD xs a 0)) (finds-kept (Some e) found) ∙ sym (ap (word-or (getD ys a 0)) (finds-kept (Some e) found));
+        only = λ xs ys same.
+            ap (word-or (getD xs a 0)) (finds-kept (Some e) found) ∙ sym (ap (word-or (getD ys a 0)) (finds-kept (Some e) found));
         more = λ s has. has;
         marks = r .marks;
       })
-    where
-      r : Running-fits (w .engine .set-up) ws (h .updaters) base (front (w .engine)) (owner-of (w .engine)) n
-          (thread-of (w .engine) n) (h .present n .work) (h .present n .fall)
-      r = running-fits (f .seats n) run
 
   -- a load from a stripe that no sealed thread holds, at a snapshot end that its version does not pass
   module _ (s end : ℕ) (here : stripe-of (w .engine .set-up) a ≡ s) (inside : a < length (w .words))
@@ -149,15 +145,17 @@ module _ (ws : List ℕ) (base : ℕ) (w : World) (h : History) (beats : Table) 
         (omega (arith, fresh, ap (λ (x : ℕ). stripe-at (w .engine) x .version) here)) so-far
 
     -- the marks stay, at a later snapshot end
-    marks-later : All (λ e. Mark-fits (w .engine .set-up) (h .updaters) n (h .present n .work .begun) end (front (w .engine) (e .stripe)) e) (thread-of (w .engine) n .reads)
+    marks-later : All (Marked w h n end) (thread-of (w .engine) n .reads)
     marks-later =
-        all-weaker _ _ (λ e m. record { old = omega (arith, later, m .old); state = m .state }) (thread-of (w .engine) n .reads) (running-fits (f .seats n) run .marks)
+        all-weaker _ _ (λ e m. record { old = omega (arith, later, m .old); state = m .state }) (thread-of (w .engine) n .reads)
+        (running-fits (f .seats n) run .marks)
 
     -- so the transaction is answered that word, if its read log has the stripe now
-    answered-stored : (rs : List ReadMark) → has-key (λ e. e .stripe) s rs ≡ true →
-        ((x : ℕ) → has-key (λ e. e .stripe) x (thread-of (w .engine) n .reads) ≡ true → has-key (λ e. e .stripe) x rs ≡ true) →
-        All (λ e. Mark-fits (w .engine .set-up) (h .updaters) n (h .present n .work .begun) end (front (w .engine) (e .stripe)) e) rs →
-        Answered (w .engine .set-up) ws (h .updaters) base (front (w .engine)) n a (getD (w .words) a 0) end (thread-of (w .engine) n) (h .present n .work) rs
+    answered-stored : (rs : List ReadMark) → has-stripe s rs ≡ true →
+        ((x : ℕ) → has-stripe x (thread-of (w .engine) n .reads) ≡ true → has-stripe x rs ≡ true) →
+        All (Marked w h n end) rs →
+        Answered (w .engine .set-up) ws (h .updaters) base (front (w .engine)) n a (getD (w .words) a 0) end (thread-of (w .engine) n)
+        (h .present n .work) rs
     answered-stored rs has more marks = record {
       later = later;
       so-far = so-far;
@@ -165,7 +163,7 @@ module _ (ws : List ℕ) (base : ℕ) (w : World) (h : History) (beats : Table) 
       here = stored-word;
       only = λ xs ys same.
           ap (word-or (getD xs a 0)) (finds-kept None logless)
-          ∙ same a (subst (λ (x : ℕ). has-key (λ e. e .stripe) x rs ≡ true) (sym here) has)
+          ∙ same a (subst (λ (x : ℕ). has-stripe x rs ≡ true) (sym here) has)
           ∙ sym (ap (word-or (getD ys a 0)) (finds-kept None logless));
       more = more;
       marks = marks;
@@ -184,23 +182,25 @@ module _ (ws : List ℕ) (base : ℕ) (w : World) (h : History) (beats : Table) 
         (λ x has. has) marks-later)
 
     -- a stripe that is noted now
-    noted-keeps : (ts : Map Thread) (es : List Event) → is-full (thread-of (w .engine) n .reads) ≡ false → Won beats (w .engine) n s end ts →
+    noted-keeps : (ts : Map Thread) (es : List Event) → is-full (thread-of (w .engine) n .reads) ≡ false →
+        Won beats (w .engine) n s end ts →
         Kept ws base w h beats (Load n a) (load-won w n a s false (goes (threaded (w .engine) ts) es))
     noted-keeps ts es roomy won =
         answered-keeps (getD (w .words) a 0) end (thread-of (w .engine) n .reads ++ mark ∷ []) (word-loaded n ∷ es) (put ts n noted)
         (at-put-same ts n noted ∙ ap (λ (t : Thread). with-reads t (grown (t .reads) mark)) (won .own)
         ∙ ap (λ (rs : List ReadMark). read-on (thread-of (w .engine) n) end rs) (grown-roomy (thread-of (w .engine) n .reads) mark roomy))
         (won-then beats (w .engine) n s end ts noted won)
-        (answered-stored (thread-of (w .engine) n .reads ++ mark ∷ []) (has-pushed (λ e. e .stripe) s (thread-of (w .engine) n .reads) mark refl)
+        (answered-stored (thread-of (w .engine) n .reads ++ mark ∷ [])
+        (has-pushed (λ e. e .stripe) s (thread-of (w .engine) n .reads) mark refl)
         (λ x has. has-before (λ e. e .stripe) x (thread-of (w .engine) n .reads) mark has)
-        (all-push (λ e. Mark-fits (w .engine .set-up) (h .updaters) n (h .present n .work .begun) end (front (w .engine) (e .stripe)) e)
-        (thread-of (w .engine) n .reads) mark marks-later (record { old = fresh; state = inl (refl, free) })))
+        (all-push (Marked w h n end) (thread-of (w .engine) n .reads) mark marks-later (record { old = fresh; state = inl (refl, free) })))
       where
         noted : Thread
         noted = with-reads (at ts n) (grown (at ts n .reads) mark)
 
     -- the stripe is won: known before or not
-    won-keeps : (known : Bool) → has-read (thread-of (w .engine) n) s ≡ known → (not known && is-full (thread-of (w .engine) n .reads)) ≡ false →
+    won-keeps : (known : Bool) → has-read (thread-of (w .engine) n) s ≡ known →
+        (not known && is-full (thread-of (w .engine) n .reads)) ≡ false →
         (ts : Map Thread) (es : List Event) → Won beats (w .engine) n s end ts →
         Kept ws base w h beats (Load n a) (load-won w n a s known (goes (threaded (w .engine) ts) es))
     won-keeps true e roomy ts es won = known-keeps ts es e won
@@ -223,8 +223,7 @@ module _ (ws : List ℕ) (base : ℕ) (w : World) (h : History) (beats : Table) 
       (logless : written (thread-of (w .engine) n) a ≡ None) (known : Bool) (e : has-read (thread-of (w .engine) n) loaded-stripe ≡ known)
       (roomy : (not known && is-full (thread-of (w .engine) n .reads)) ≡ false) where
     -- the transaction as it was
-    r : Running-fits (w .engine .set-up) ws (h .updaters) base (front (w .engine)) (owner-of (w .engine)) n
-        (thread-of (w .engine) n) (h .present n .work) (h .present n .fall)
+    r : Runs-on ws base w h (owner-of (w .engine)) n (thread-of (w .engine) n) (h .present n .work) (h .present n .fall)
     r = running-fits (f .seats n) run
 
     module _ (free : front (w .engine) loaded-stripe .hold ≡ None) where
@@ -276,14 +275,16 @@ module _ (ws : List ℕ) (base : ℕ) (w : World) (h : History) (beats : Table) 
           check newer (Some x) p = invalid-keeps x p
 
           go : (b : Bool) → ltb (thread-of (w .engine) n .snapshot) (stripe-at (w .engine) loaded-stripe .version) ≡ b →
-              Kept ws base w h beats (Load n a) (load-fresh beats w n a loaded-stripe known (cond b (recheck (w .engine) n) (goes (w .engine) [])))
+              Kept ws base w h beats (Load n a)
+              (load-fresh beats w n a loaded-stripe known (cond b (recheck (w .engine) n) (goes (w .engine) [])))
           go true p =
               check (ltb-true (thread-of (w .engine) n .snapshot) (stripe-at (w .engine) loaded-stripe .version) p)
               (first-invalid (w .engine) n (thread-of (w .engine) n .reads)) refl
           go false p = old-keeps (ltb-false (thread-of (w .engine) n .snapshot) (stripe-at (w .engine) loaded-stripe .version) p)
 
     -- the stripe is busy or not
-    free-keeps : (b : Bool) → busy (w .engine) n loaded-stripe ≡ b → Kept ws base w h beats (Load n a) (load-free beats w n a loaded-stripe known b)
+    free-keeps : (b : Bool) → busy (w .engine) n loaded-stripe ≡ b →
+        Kept ws base w h beats (Load n a) (load-free beats w n a loaded-stripe known b)
     free-keeps true p = refused-keeps ws base w h beats (Load n a) f StripeBusy
     free-keeps false p = refresh-keeps (free-hold ws base w h n loaded-stripe f run p)
 
@@ -305,7 +306,8 @@ module _ (ws : List ℕ) (base : ℕ) (w : World) (h : History) (beats : Table) 
       (not (has-read (thread-of (w .engine) n) loaded-stripe) && is-full (thread-of (w .engine) n .reads)) refl
 
   -- there is such an address or not
-  placed-keeps : Admitted (w .engine) Loading n → (b : Bool) → ltb a (length (w .words)) ≡ b → Kept ws base w h beats (Load n a) (load-placed beats w n a b)
+  placed-keeps : Admitted (w .engine) Loading n → (b : Bool) → ltb a (length (w .words)) ≡ b →
+      Kept ws base w h beats (Load n a) (load-placed beats w n a b)
   placed-keeps x false p = refused-keeps ws base w h beats (Load n a) f NoSuchPlace
   placed-keeps x true p =
       logged-keeps (running-phase (thread-of (w .engine) n .phase) (x .fits)) (ltb-true a (length (w .words)) p)

@@ -47,13 +47,14 @@ admitted-parts st k n x e = go (is-thread (st .set-up) n) (is-for k (thread-of s
     go false true p q r = absurd (never-ok NoSuchThread x r)
     go false false p q r = absurd (never-ok NoSuchThread x r)
 
--- the phase by its test
+-- a phase that is tested as running is so
 pub running-phase : (p : Phase) → is-running p ≡ true → p ≡ Running
 running-phase Idle e = absurd (let z : _≡_ {A = ℕ} 0 1 = cc in omega arith)
 running-phase Running e = refl
 running-phase (Sealed t d) e = absurd (let z : _≡_ {A = ℕ} 0 1 = cc in omega arith)
 running-phase (Lost l) e = absurd (let z : _≡_ {A = ℕ} 0 1 = cc in omega arith)
 
+-- a phase that is tested as idle is so
 pub idle-phase : (p : Phase) → is-idle p ≡ true → p ≡ Idle
 idle-phase Idle e = refl
 idle-phase Running e = absurd (let z : _≡_ {A = ℕ} 0 1 = cc in omega arith)

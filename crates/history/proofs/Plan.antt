@@ -34,27 +34,32 @@ pub record Kept (ws : List ℕ) (base : ℕ) (w : World) (h : History) (beats : 
 abbrev pub New-fits : Type 0
 New-fits = (u : SetUp) (ws : List ℕ) → Fits ws 0 (new-world u ws) (no-history ws)
 
--- each call in turn
+-- a begin
 abbrev pub Begin-keeps : Type 0
 Begin-keeps = (ws : List ℕ) (base : ℕ) (w : World) (h : History) (beats : Table) (n : ℕ) →
     Fits ws base w h → Kept ws base w h beats (Begin n) (begin w n)
 
+-- a load
 abbrev pub Load-keeps : Type 0
 Load-keeps = (ws : List ℕ) (base : ℕ) (w : World) (h : History) (beats : Table) (n a : ℕ) →
     Fits ws base w h → Kept ws base w h beats (Load n a) (load beats w n a)
 
+-- a store
 abbrev pub Store-keeps : Type 0
 Store-keeps = (ws : List ℕ) (base : ℕ) (w : World) (h : History) (beats : Table) (n a v : ℕ) →
     Fits ws base w h → Kept ws base w h beats (Store n a v) (store beats w n a v)
 
+-- a seal
 abbrev pub Seal-keeps : Type 0
 Seal-keeps = (ws : List ℕ) (base : ℕ) (w : World) (h : History) (beats : Table) (n : ℕ) →
     Fits ws base w h → Kept ws base w h beats (Seal n) (seal w n)
 
+-- a drain
 abbrev pub Drain-keeps : Type 0
 Drain-keeps = (ws : List ℕ) (base : ℕ) (w : World) (h : History) (beats : Table) (n : ℕ) →
     Fits ws base w h → Kept ws base w h beats (Drain n) (drain w n)
 
+-- a back
 abbrev pub Back-keeps : Type 0
 Back-keeps = (ws : List ℕ) (base : ℕ) (w : World) (h : History) (beats : Table) (n : ℕ) →
     Fits ws base w h → Kept ws base w h beats (Back n) (back w n)

@@ -24,6 +24,7 @@ use Rattle.std.specs.shelf.Lists.{All}
 abbrev pub quiet-state : State → Bool → Map Stripe → Map Thread → State
 quiet-state st m ss ts = record { set-up = st .set-up; clock = st .clock; mark = m; stripes = ss; threads = ts }
 
+-- the outcome of a call that leaves the words
 abbrev pub quiet-outcome : World → Answer → List Event → State → Outcome
 quiet-outcome w a es st = record { answer = a; told = es; after = over w st }
 
@@ -36,6 +37,7 @@ pub record Quiet (ws : List ℕ) (base : ℕ) (w : World) (h : History) (st : St
   pub past-points : All (λ t. Point ws (h .updaters) (t .work)) (g .past)
   pub past-spared : All (λ t. Spared (w .engine .set-up) (h .updaters) (t .work) (t .fall)) (g .past)
 
+-- a quiet call keeps the invariant, once that is shown
 pub quiet-keeps : (ws : List ℕ) (base : ℕ) (w : World) (h : History) (beats : Table) (c : Call) (a : Answer) (es : List Event)
     (m : Bool) (ss : Map Stripe) (ts : Map Thread) → Fits ws base w h →
     Quiet ws base w h (quiet-state (w .engine) m ss ts) (then w h beats c (quiet-outcome w a es (quiet-state (w .engine) m ss ts))) →

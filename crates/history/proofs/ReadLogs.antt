@@ -9,7 +9,7 @@ use mathlib.Core.Path.{_≡_, refl, ap, sym, subst, _∙_}
 use native.Mathlib.Omega.{arith}
 use Rattle.common.specs.declared.loss.Loss.the-variants.{Invalid}
 use Rattle.history.proofs.Holders.{free-hold, held-none-free}
-use Rattle.history.proofs.Invariant.{Fits, Hold, Mark-fits, Overtaken, front, left-of, top, top-of}
+use Rattle.history.proofs.Invariant.{Marked, Fits, Hold, Overtaken, front, left-of, top, top-of}
 use Rattle.history.proofs.KeyedEntries.{all-both, keyed}
 use Rattle.history.proofs.Phases.{running-fits}
 use Rattle.history.proofs.SerialRuns.{since-moment}
@@ -96,7 +96,8 @@ module _ (ws : List ℕ) (base : ℕ) (w : World) (h : History) (n : ℕ) (f : F
   present-loads valid =
       running-fits (f .seats n) run .covered
       (serial-run ws (h .updaters)) (words-at ws (h .updaters) (base + thread-of (w .engine) n .snapshot))
-      (λ a has. agrees a (keyed (λ (e : ReadMark). e .stripe) (stripe-of (w .engine .set-up) a) Valid-old (thread-of (w .engine) n .reads) old has))
+      (λ a has. agrees a
+      (keyed (λ (e : ReadMark). e .stripe) (stripe-of (w .engine .set-up) a) Valid-old (thread-of (w .engine) n .reads) old has))
       ∙ running-fits (f .seats n) run .loads
     where
       agrees : (a : ℕ) → (e : ReadMark) × (e .stripe ≡ stripe-of (w .engine .set-up) a) × Valid-old e →
@@ -105,12 +106,13 @@ module _ (ws : List ℕ) (base : ℕ) (w : World) (h : History) (n : ℕ) (f : F
 
       old : All Valid-old (thread-of (w .engine) n .reads)
       old =
-          all-both (λ e. is-valid (w .engine) n e ≡ true) (λ e. e .version ≤ thread-of (w .engine) n .snapshot) (thread-of (w .engine) n .reads) valid
+          all-both (λ e. is-valid (w .engine) n e ≡ true) (λ e. e .version ≤ thread-of (w .engine) n .snapshot)
+          (thread-of (w .engine) n .reads) valid
           (all-weaker _ _ (λ e m. m .old) (thread-of (w .engine) n .reads) (running-fits (f .seats n) run .marks))
 
   -- an entry that is no longer as it was read was overtaken
   invalid-overtaken : (e : ReadMark) → is-valid (w .engine) n e ≡ false →
-      Mark-fits (w .engine .set-up) (h .updaters) n (h .present n .work .begun) (thread-of (w .engine) n .snapshot) (front (w .engine) (e .stripe)) e →
+      Marked w h n (thread-of (w .engine) n .snapshot) e →
       Overtaken (w .engine .set-up) (h .updaters) n (h .present n .work .begun) (e .stripe)
   invalid-overtaken e bad m = go (m .state)
     where
@@ -128,7 +130,8 @@ pub refresh-agrees : (ws : List ℕ) (base : ℕ) (w : World) (h : History) (n :
     thread-of (w .engine) n .phase ≡ Running → first-invalid (w .engine) n (thread-of (w .engine) n .reads) ≡ None →
     Loads-at ws (h .updaters) (length (h .updaters)) (h .present n .work)
 refresh-agrees ws base w h n f run none =
-    ap (λ (us : List Work). loaded-on (serial-run ws us) (h .present n .work .calls)) (take-all (length (h .updaters)) (h .updaters) (omega arith))
+    ap (λ (us : List Work). loaded-on (serial-run ws us) (h .present n .work .calls))
+    (take-all (length (h .updaters)) (h .updaters) (omega arith))
     ∙ present-loads ws base w h n f run (valid-entries (w .engine) n (thread-of (w .engine) n .reads) none)
 
 -- and one with an invalid entry excuses a leader's loss
@@ -136,9 +139,7 @@ pub invalid-excuses : (ws : List ℕ) (base : ℕ) (w : World) (h : History) (n 
     thread-of (w .engine) n .phase ≡ Running → first-invalid (w .engine) n (thread-of (w .engine) n .reads) ≡ Some s →
     Excused (w .engine .set-up) (h .updaters) (h .present n .work) (length (h .updaters)) (Invalid s)
 invalid-excuses ws base w h n s f run some =
-    let x = invalid-entry (w .engine) n s
-    (λ e. Mark-fits (w .engine .set-up) (h .updaters) n (h .present n .work .begun) (thread-of (w .engine) n .snapshot) (front (w .engine) (e .stripe)) e)
-    (thread-of (w .engine) n .reads) (running-fits (f .seats n) run .marks) some in
+    let x = invalid-entry (w .engine) n s (Marked w h n (thread-of (w .engine) n .snapshot)) (thread-of (w .engine) n .reads) (running-fits (f .seats n) run .marks) some in
     subst (λ (t : ℕ). Overtaken (w .engine .set-up) (h .updaters) t (h .present n .work .begun) s) (sym (f .seats n .named))
     (subst (λ (t : ℕ). Overtaken (w .engine .set-up) (h .updaters) n (h .present n .work .begun) t) (x .1)
     (invalid-overtaken ws base w h n f run (x .0) (x .2) (x .3)))

@@ -57,19 +57,19 @@ module _ (ws : List ℕ) (base : ℕ) (w : World) (h : History) (beats : Table) 
   -- its seal leaves it idle, with one call more
   reader-keeps : length (thread-of (w .engine) n .writes) ≡ 0 → Kept ws base w h beats (Seal n) (seal-updates w n true)
   reader-keeps empty =
-      alone-keeps ws base w h beats (Seal n) (AnsweredSealed (Reader (thread-of (w .engine) n .snapshot))) (seal-of n ∷ []) (w .engine .mark)
-      (put (w .engine .threads) n idle) f (λ k d. at-put-other (w .engine .threads) n k idle d)
+      alone-keeps ws base w h beats (Seal n) (AnsweredSealed (Reader (thread-of (w .engine) n .snapshot))) (seal-of n ∷ [])
+      (w .engine .mark) (put (w .engine .threads) n idle) f (λ k d. at-put-other (w .engine .threads) n k idle d)
       (hold-none (thread-of (w .engine) n) Running running refl) (ap hold-of same)
-      (ap (λ (o : Option ℕ). rewritten o (work-after .work) (h .updaters)) (running-fits (f .seats n) running .unnumbered))
-      (subst (λ (t : Thread). Seated ws base w h (owner-of (w .engine)) n t (fallen (length (h .updaters)) work-after (loss-in (t .phase))))
+      (ap (λ (o : Option ℕ). rewritten o (reader .work) (h .updaters)) (running-fits (f .seats n) running .unnumbered))
+      (subst (λ (t : Thread). Seated ws base w h (owner-of (w .engine)) n t (fallen (length (h .updaters)) reader (loss-in (t .phase))))
       (sym same)
       (record {
         named = f .seats n .named;
         inside = λ e. refl;
         phase = λ s e. absurd (owns-nothing empty s e);
-        point = point-alike (h .present n .work) (work-after .work) refl refl (λ m e. e) (f .seats n .point);
+        point = point-alike (h .present n .work) (reader .work) refl refl (λ m e. e) (f .seats n .point);
         spared =
-            subst (λ (o : Option Fall). Spared (w .engine .set-up) (h .updaters) (work-after .work) o)
+            subst (λ (o : Option Fall). Spared (w .engine .set-up) (h .updaters) (reader .work) o)
             (sym (running-fits (f .seats n) running .standing)) tt;
       }))
       (f .past-points) (f .past-spared)
@@ -80,8 +80,8 @@ module _ (ws : List ℕ) (base : ℕ) (w : World) (h : History) (beats : Table) 
       same : at (put (w .engine .threads) n idle) n ≡ idle
       same = at-put-same (w .engine .threads) n idle
 
-      work-after : Transaction
-      work-after = with-work (watched (leads beats n (w .engine .set-up .threads)) (h .present n)) (called (Seal n) (h .present n .work))
+      reader : Transaction
+      reader = with-work (watched (leads beats n (w .engine .set-up .threads)) (h .present n)) (called (Seal n) (h .present n .work))
 
   -- nothing was sealed since the snapshot end: its moment is the present one
   unchecked-keeps : w .engine .clock ≡ thread-of (w .engine) n .snapshot →

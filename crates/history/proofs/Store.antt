@@ -10,17 +10,18 @@ use Rattle.common.specs.declared.refusal.Refusal.the-variants.{NoSuchPlace, Log
 use Rattle.contention.specs.Events.{Event, stripe-taken}
 use Rattle.history.proofs.GoingOn.{Left-or-beaten, Taken-by, goes-on-keeps}
 use Rattle.history.proofs.Holders.{free-hold}
-use Rattle.history.proofs.Invariant.{Fits, Front, Running-fits, front, stores-in}
+use Rattle.history.proofs.Invariant.{Runs-on, Fits, Front, Running-fits, front, stores-in}
 use Rattle.history.proofs.KeyedEntries.{found-has, grown-roomy, has-replaced, pushed-cases}
 use Rattle.history.proofs.Maps.{at-put-same, at-put-other}
 use Rattle.history.proofs.Phases.{Admitted, running-fits, running-phase}
 use Rattle.history.proofs.Plan.{Kept, Store-keeps}
+use Rattle.history.proofs.PutIn.{address-of, has-address}
 use Rattle.history.proofs.Quiet.{quiet-outcome, quiet-state}
 use Rattle.history.proofs.Refusals.{admitted-or-refused, refused-keeps}
 use Rattle.history.proofs.Wins.{Won, contend-keeps, threaded, won-then}
 use Rattle.history.specs.Record.{History, Work, Fall, called}
 use Rattle.history.specs.Serial.{write-log}
-use Rattle.layout.specs.Lookups.{has-key, replaced}
+use Rattle.layout.specs.Lookups.{replaced}
 use Rattle.layout.specs.SetUps.{stripe-of}
 use Rattle.layout.specs.declared.entries.WriteEntry.{WriteEntry}
 use Rattle.layout.specs.declared.set_up.SetUp.{SetUp}
@@ -43,7 +44,7 @@ use Rattle.std.specs.declared.option.Option.{Option}
 -- had and the new one, and of stripes it gained at most that of the new one
 record Logged (u : SetUp) (owner owner′ : ℕ → ℕ) (n a v : ℕ) (t : Thread) (w : Work) (es : List WriteEntry) : Type 0 where
   log : es ≡ write-log (Store n a v ∷ w .calls)
-  keys : (b : ℕ) → has-key (λ e. e .address) b es ≡ true → (has-key (λ e. e .address) b (t .writes) ≡ true) ⊎ (a ≡ b)
+  keys : (b : ℕ) → has-address b es ≡ true → (has-address b (t .writes) ≡ true) ⊎ (a ≡ b)
   keeps : (s : ℕ) → owner s ≡ n → owner′ s ≡ n
   gains : (s : ℕ) → owner′ s ≡ n → (owner s ≡ n) ⊎ (stripe-of u a ≡ s)
   owned : owner′ (stripe-of u a) ≡ n
@@ -69,7 +70,7 @@ logged-fits u ws us base fs owner owner′ n a v t w f es r x = record {
   others = r .others;
 }
   where
-    owns : (b : ℕ) → (has-key (λ e. e .address) b (t .writes) ≡ true) ⊎ (a ≡ b) → owner′ (stripe-of u b) ≡ n
+    owns : (b : ℕ) → (has-address b (t .writes) ≡ true) ⊎ (a ≡ b) → owner′ (stripe-of u b) ≡ n
     owns b (inl has) = x .keeps (stripe-of u b) (r .owns-log b has)
     owns b (inr e) = ap (λ (c : ℕ). owner′ (stripe-of u c)) (sym e) ∙ x .owned
 
@@ -94,7 +95,8 @@ module _ (ws : List ℕ) (base : ℕ) (w : World) (h : History) (beats : Table) 
         others = others;
         stripes = stripes;
         running = ap (λ (t : Thread). t .phase) own ∙ run;
-        fits = subst (λ (t : Thread). Running-fits (w .engine .set-up) ws (h .updaters) base (front (w .engine)) (λ s. at ss s .owner) n t
+        fits =
+            subst (λ (t : Thread). Runs-on ws base w h (λ s. at ss s .owner) n t
             (called (Store n a v) (h .present n .work)) (h .present n .fall)) (sym own)
             (logged-fits (w .engine .set-up) ws (h .updaters) base (front (w .engine)) (owner-of (w .engine)) (λ s. at ss s .owner) n a v
             (thread-of (w .engine) n) (h .present n .work) (h .present n .fall) log (running-fits (f .seats n) run) x);
@@ -102,10 +104,10 @@ module _ (ws : List ℕ) (base : ℕ) (w : World) (h : History) (beats : Table) 
 
   -- whether the address is logged is whether it was stored to
   logged-before : (b : Bool) → has-written (thread-of (w .engine) n) a ≡ b →
-      has-key (λ e. e .address) a (write-log (h .present n .work .calls)) ≡ b
+      has-address a (write-log (h .present n .work .calls)) ≡ b
   logged-before b e =
-      ap (has-key (λ (y : WriteEntry). y .address) a) (sym (running-fits (f .seats n) run .log))
-      ∙ sym (found-has (λ (y : WriteEntry). y .address) a (thread-of (w .engine) n .writes)) ∙ e
+      ap (has-address a) (sym (running-fits (f .seats n) run .log))
+      ∙ sym (found-has address-of a (thread-of (w .engine) n .writes)) ∙ e
 
   -- a store to an address that is logged
   rewrite-keeps : has-written (thread-of (w .engine) n) a ≡ true → Kept ws base w h beats (Store n a v) (store-logged beats w n a v true)
@@ -116,16 +118,17 @@ module _ (ws : List ℕ) (base : ℕ) (w : World) (h : History) (beats : Table) 
       (λ s. inl refl)
       (record {
         log =
-            ap (replaced (λ (y : WriteEntry). y .address) (entry a v)) (running-fits (f .seats n) run .log)
+            ap (replaced address-of (entry a v)) (running-fits (f .seats n) run .log)
             ∙ sym (cond-true _ _ _ (logged-before true has));
-        keys = λ b key. inl (sym (has-replaced (λ (y : WriteEntry). y .address) b (entry a v) (thread-of (w .engine) n .writes)) ∙ key);
+        keys = λ b key. inl (sym (has-replaced address-of b (entry a v) (thread-of (w .engine) n .writes)) ∙ key);
         keeps = λ s o. o;
         gains = λ s o. inl o;
-        owned = running-fits (f .seats n) run .owns-log a (sym (found-has (λ (y : WriteEntry). y .address) a (thread-of (w .engine) n .writes)) ∙ has);
+        owned =
+            running-fits (f .seats n) run .owns-log a (sym (found-has address-of a (thread-of (w .engine) n .writes)) ∙ has);
       })
     where
       log : List WriteEntry
-      log = replaced (λ e. e .address) (entry a v) (thread-of (w .engine) n .writes)
+      log = replaced address-of (entry a v) (thread-of (w .engine) n .writes)
 
       rewritten : Thread
       rewritten = with-writes (thread-of (w .engine) n) log
@@ -158,7 +161,7 @@ module _ (ws : List ℕ) (base : ℕ) (w : World) (h : History) (beats : Table) 
       log =
           ap (λ (es : List WriteEntry). es ++ entry a v ∷ []) (running-fits (f .seats n) run .log)
           ∙ sym (cond-false _ _ _ (logged-before false fresh));
-      keys = λ b key. pushed-cases (λ (y : WriteEntry). y .address) b (thread-of (w .engine) n .writes) (entry a v) key;
+      keys = λ b key. pushed-cases address-of b (thread-of (w .engine) n .writes) (entry a v) key;
       keeps = keeps;
       gains = gains;
       owned = owned;
@@ -177,7 +180,8 @@ module _ (ws : List ℕ) (base : ℕ) (w : World) (h : History) (beats : Table) 
     claimed = record { version = stripe-at (w .engine) stored-stripe .version; owner = n }
 
     -- its former owner does not run any more
-    claimed-settled : (owner-of (w .engine) stored-stripe ≡ n → ⊥) → is-running (at (put ts n noted) (owner-of (w .engine) stored-stripe) .phase) ≡ false
+    claimed-settled : (owner-of (w .engine) stored-stripe ≡ n → ⊥) →
+        is-running (at (put ts n noted) (owner-of (w .engine) stored-stripe) .phase) ≡ false
     claimed-settled d =
         ap (λ (t : Thread). is-running (t .phase)) (at-put-other ts n (owner-of (w .engine) stored-stripe) noted d) ∙ won .settled d
 
@@ -221,7 +225,8 @@ module _ (ws : List ℕ) (base : ℕ) (w : World) (h : History) (beats : Table) 
         (ap (λ (x : Stripe). x .owner) (at-put-same (w .engine .stripes) stored-stripe claimed)))
 
     -- whichever it is
-    won-keeps : (es : List Event) → Kept ws base w h beats (Store n a v) (store-won w n a v stored-stripe (goes (threaded (w .engine) ts) es))
+    won-keeps : (es : List Event) →
+        Kept ws base w h beats (Store n a v) (store-won w n a v stored-stripe (goes (threaded (w .engine) ts) es))
     won-keeps es = go (eqb (owner-of (w .engine) stored-stripe) n) refl
       where
         go : (b : Bool) → eqb (owner-of (w .engine) stored-stripe) n ≡ b →
@@ -240,7 +245,8 @@ module _ (ws : List ℕ) (base : ℕ) (w : World) (h : History) (beats : Table)
     free-keeps fresh roomy true p = refused-keeps ws base w h beats (Store n a v) f StripeBusy
     free-keeps fresh roomy false p =
         contend-keeps ws base w h beats (Store n a v) (stripe-of (w .engine .set-up) a) (thread-of (w .engine) n .snapshot)
-        (w .engine .threads) f run (record { own = refl; others = λ k d. refl }) (store-won w n a v (stripe-of (w .engine .set-up) a)) (λ l st. refl)
+        (w .engine .threads) f run (record { own = refl; others = λ k d. refl })
+        (store-won w n a v (stripe-of (w .engine .set-up) a)) (λ l st. refl)
         (λ ts es won. won-keeps ws base w h beats n a v f run fresh roomy
         (free-hold ws base w h n (stripe-of (w .engine .set-up) a) f run p) ts won es)
 
@@ -251,7 +257,8 @@ module _ (ws : List ℕ) (base : ℕ) (w : World) (h : History) (beats : Table)
     roomy-keeps fresh false p = free-keeps fresh p (busy (w .engine) n (stripe-of (w .engine .set-up) a)) refl
 
     -- the address is in the write log or not
-    entry-keeps : (b : Bool) → has-written (thread-of (w .engine) n) a ≡ b → Kept ws base w h beats (Store n a v) (store-logged beats w n a v b)
+    entry-keeps : (b : Bool) → has-written (thread-of (w .engine) n) a ≡ b →
+        Kept ws base w h beats (Store n a v) (store-logged beats w n a v b)
     entry-keeps true p = rewrite-keeps ws base w h beats n a v f run p
     entry-keeps false p = roomy-keeps p (is-full (thread-of (w .engine) n .writes)) refl
 

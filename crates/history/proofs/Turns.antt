@@ -55,10 +55,13 @@ module _ {P : Type 0} (table : P → Table) (moved : P → Event → P) where
         opened : drop i first ≡ x ∷ drop (i + 1) first
         opened = drop-more first i d (omega arith) ∙ ap (λ z. z ∷ drop (i + 1) first) same
 
-        goes-on : run-from table moved w p (calls-of (drop i first)) ≡ begun-by next (run-from table moved w′ p′ (calls-of (drop (i + 1) first)))
+        goes-on : run-from table moved w p (calls-of (drop i first))
+            ≡ begun-by next (run-from table moved w′ p′ (calls-of (drop (i + 1) first)))
         goes-on =
             ap (λ ts. run-from table moved w p (calls-of ts)) opened ∙
-            ap (λ v. begun-by next (run-from table moved v (after-events moved p (perform (table p) w (x .call) .told)) (calls-of (drop (i + 1) first)))) (sym left) ∙
+            ap (λ v. begun-by next
+            (run-from table moved v (after-events moved p (perform (table p) w (x .call) .told)) (calls-of (drop (i + 1) first))))
+            (sym left) ∙
             ap (λ q. begun-by next (run-from table moved w′ q (calls-of (drop (i + 1) first)))) (sym told)
 
         regrouped : take i now ++ (turn-of next ∷ map turn-of (run-from table moved w′ p′ (calls-of (drop (i + 1) first)) .lines)) ≡

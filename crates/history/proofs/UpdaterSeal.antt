@@ -229,7 +229,8 @@ module _ (ws : List ℕ) (base : ℕ) (w : World) (h : History) (beats : Table) 
   fronts-apart k s d (inr x) = inl (front-other s x)
 
   -- so the other threads are apart from the seal
-  others-apart : (k : ℕ) → (k ≡ n → ⊥) → Apart u ws us more (front (w .engine)) (front after) owners owners k (thread-of (w .engine) k .phase)
+  others-apart : (k : ℕ) → (k ≡ n → ⊥) →
+      Apart u ws us more (front (w .engine)) (front after) owners owners k (thread-of (w .engine) k .phase)
   others-apart k d = record {
     grows = grown;
     newer = λ j low high e. d (sym e ∙ ap (λ (x : Work). x .thread) (pushed-new h n j low high) ∙ f .seats n .named);
