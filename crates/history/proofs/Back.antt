@@ -8,16 +8,16 @@ use mathlib.Core.Path.{_≡_, refl, ap, sym, subst, _∙_}
 use native.Mathlib.Omega.{arith}
 use Rattle.common.specs.declared.loss.Loss.{Loss}
 use Rattle.common.specs.declared.loss.Loss.the-variants.{Beaten, Invalid, ClockSpent, Stolen}
-use Rattle.history.proofs.Alone.{alone-keeps-owners, alone-holds}
-use Rattle.history.proofs.Holders.{hold-none}
+use Rattle.history.proofs.Alone.{alone-holds, alone-keeps-owners}
 use Rattle.history.proofs.Growth.{grows-none, point-alike}
+use Rattle.history.proofs.Holders.{hold-none}
 use Rattle.history.proofs.Invariant.{Fits, Seated, front, hold-of}
 use Rattle.history.proofs.Lines.{fallen-before}
-use Rattle.history.proofs.Maps.{at-put-same, at-put-other}
+use Rattle.history.proofs.Maps.{at-put-other, at-put-same}
 use Rattle.history.proofs.Phases.{lost-fits, running-fits}
 use Rattle.history.proofs.Plan.{Back-keeps, Kept}
 use Rattle.history.proofs.Refusals.{admitted-or-refused}
-use Rattle.history.proofs.Releases.{released-own, released-other, released-keeps, released-gains, released-nothing}
+use Rattle.history.proofs.Releases.{released-gains, released-keeps, released-nothing, released-other, released-own}
 use Rattle.history.proofs.Seats.{seat-apart}
 use Rattle.history.specs.Law.{Excused, Spared}
 use Rattle.history.specs.Record.{History, Transaction, Work, Fall, called, ended-loss, fallen, leads, or-else, rewritten, watched, with-work}

@@ -9,7 +9,7 @@ use Rattle.common.specs.declared.refusal.Refusal.the-variants.{RollPending}
 use Rattle.history.proofs.Alone.{alone-keeps}
 use Rattle.history.proofs.Holders.{hold-none}
 use Rattle.history.proofs.Invariant.{Fits, Seated, hold-of}
-use Rattle.history.proofs.Maps.{at-put-same, at-put-other}
+use Rattle.history.proofs.Maps.{at-put-other, at-put-same}
 use Rattle.history.proofs.Phases.{Admitted, idle-fits, idle-phase, thread-not-zero}
 use Rattle.history.proofs.Plan.{Begin-keeps, Kept}
 use Rattle.history.proofs.Refusals.{admitted-or-refused, refused-keeps}

@@ -8,16 +8,16 @@ use mathlib.Core.Logic.{_⊎_, inl, inr}
 use mathlib.Core.Path.{_≡_, refl, ap, sym, subst, _∙_}
 use native.Mathlib.Omega.{arith}
 use Rattle.common.specs.declared.refusal.Refusal.the-variants.{WrongState}
-use Rattle.history.proofs.DrainSteps.{Drain-step, drained-engine, drained-outcome, drained-once, step-keeps}
+use Rattle.history.proofs.DrainSteps.{Drain-step, drained-engine, drained-once, drained-outcome, step-keeps}
 use Rattle.history.proofs.Holders.{held-by, hold-none}
-use Rattle.history.proofs.Invariant.{Fits, Front, Sealed-fits, Phase-fits, front, hold-of, left-in, top, top-of}
+use Rattle.history.proofs.Invariant.{Fits, Front, Phase-fits, Sealed-fits, front, hold-of, left-in, top, top-of}
 use Rattle.history.proofs.KeyedEntries.{has-dropped, never-has}
-use Rattle.history.proofs.Maps.{at-put-same, at-put-other}
+use Rattle.history.proofs.Maps.{at-put-other, at-put-same}
 use Rattle.history.proofs.Phases.{sealed-fits, thread-not-zero}
-use Rattle.history.proofs.Plan.{Kept, Drain-keeps}
+use Rattle.history.proofs.Plan.{Drain-keeps, Kept}
 use Rattle.history.proofs.PutIn.{address-of, has-address, put-in-length, put-in-misses}
 use Rattle.history.proofs.Refusals.{admitted-or-refused, refused-keeps}
-use Rattle.history.proofs.Releases.{released-own, released-other, released-keeps, released-gains, released-nothing}
+use Rattle.history.proofs.Releases.{released-gains, released-keeps, released-nothing, released-other, released-own}
 use Rattle.history.specs.Record.{History, Work, called, no-work}
 use Rattle.history.specs.Runs.{loss-in}
 use Rattle.history.specs.Serial.{put-in, write-log, drain-count}
@@ -154,8 +154,11 @@ module _ (ws : List ℕ) (base : ℕ) (w : World) (h : History) (beats : Table) 
       };
       tops = λ s p. ap top (front-on s p);
       rises = λ s p.
-          omega (arith, f .stripes s .rises,
-          ap (top-of (stripe-at (w .engine) s .version)) (held-by (w .engine) n ticket drained s sealed p));
+          omega (
+            arith,
+            f .stripes s .rises,
+            ap (top-of (stripe-at (w .engine) s .version)) (held-by (w .engine) n ticket drained s sealed p),
+          );
       lefts = λ s p. ap (put-in (w .words)) next ∙ ap (λ (y : Front). put-in now-on (left-in y)) (sym (front-on s p));
       words-other = on-words;
       gains = λ k s z d p. p;

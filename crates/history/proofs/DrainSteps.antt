@@ -6,15 +6,15 @@ use mathlib.Core.List.{List, []}
 use mathlib.Core.Logic.{_⊎_, inl, inr}
 use mathlib.Core.Path.{_≡_, refl, ap, sym, subst, _∙_}
 use native.Mathlib.Omega.{arith}
-use Rattle.history.proofs.Growth.{Grows, loads-grow, point-alike, point-grows, points-grow, all-spared-grow}
+use Rattle.history.proofs.Growth.{Grows, all-spared-grow, loads-grow, point-alike, point-grows, points-grow}
 use Rattle.history.proofs.Holders.{held-by}
-use Rattle.history.proofs.Invariant.{Fits, Front, Hold, Stripe-fits, Word-fits, Sealed-fits, Phase-fits, Seat, Draining, Spent, front, left-in, left-of, top, top-of}
+use Rattle.history.proofs.Invariant.{Draining, Fits, Front, Hold, Phase-fits, Sealed-fits, Seat, Spent, Stripe-fits, Word-fits, front, left-in, left-of, top, top-of}
 use Rattle.history.proofs.Lines.{leads-at, present-unlost, work-other}
 use Rattle.history.proofs.Plan.{Kept, then}
 use Rattle.history.proofs.PutIn.{put-in-same}
 use Rattle.history.proofs.Quiet.{quiet-state}
-use Rattle.history.proofs.SerialRuns.{drain-grows}
 use Rattle.history.proofs.Seats.{Apart, draining-on, seat-apart, seat-other}
+use Rattle.history.proofs.SerialRuns.{drain-grows}
 use Rattle.history.specs.Law.{updater, Loads-at, Spared}
 use Rattle.history.specs.Record.{History, Line, Transaction, Work, Fall, called, with-work, watched, rewritten, no-work}
 use Rattle.history.specs.Runs.{loss-in, line-of}

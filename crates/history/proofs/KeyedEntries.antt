@@ -162,7 +162,7 @@ module _ {E : Type 0} (key : E → ℕ) where
       let d = or-parts (eqb (key e) (key new)) (has-key key (key new) es) h in
       let apart = ne-eqb (key new) (key e) (λ x. eqb-false (key e) (key new) (d .0) (sym x)) in (
         has-append (key e) es (new ∷ [])
-        ∙ or-from (has-key key (key e) es) (has-key key (key e) (new ∷ [])) (o .0) (or-from (eqb (key new) (key e)) false apart refl),
+            ∙ or-from (has-key key (key e) es) (has-key key (key e) (new ∷ [])) (o .0) (or-from (eqb (key new) (key e)) false apart refl),
         once-pushed new es (d .1) (o .1),
       )
 

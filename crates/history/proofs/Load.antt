@@ -12,14 +12,14 @@ use Rattle.common.specs.declared.refusal.Refusal.the-variants.{NoSuchPlace, Log
 use Rattle.contention.specs.Events.{Event, word-loaded}
 use Rattle.history.proofs.GoingOn.{Left-or-beaten, goes-on-keeps}
 use Rattle.history.proofs.Holders.{free-hold}
-use Rattle.history.proofs.Invariant.{Marked, Runs-on, Same-read, has-stripe, Fits, Front, Mark-fits, Running-fits, front}
+use Rattle.history.proofs.Invariant.{Fits, Front, Mark-fits, Marked, Running-fits, Runs-on, Same-read, front, has-stripe}
 use Rattle.history.proofs.KeyedEntries.{found-has, grown-roomy, has-before, has-pushed}
 use Rattle.history.proofs.Logs.{log-finds-kept}
 use Rattle.history.proofs.Losses.{lost-keeps}
-use Rattle.history.proofs.Maps.{at-put-same, at-put-other}
+use Rattle.history.proofs.Maps.{at-put-other, at-put-same}
 use Rattle.history.proofs.Phases.{Admitted, running-fits, running-phase}
-use Rattle.history.proofs.PutIn.{address-of}
 use Rattle.history.proofs.Plan.{Kept, Load-keeps}
+use Rattle.history.proofs.PutIn.{address-of}
 use Rattle.history.proofs.Quiet.{quiet-outcome}
 use Rattle.history.proofs.ReadLogs.{free-word-agrees, invalid-excuses, refresh-agrees}
 use Rattle.history.proofs.Refusals.{admitted-or-refused, refused-keeps}
@@ -42,8 +42,8 @@ use Rattle.rules.specs.declared.kind.Kind.the-variants.{Load as Loading}
 use Rattle.rules.specs.declared.phase.Phase.the-variants.{Running, Lost}
 use Rattle.std.proofs.shelf.Elements.{all-push, all-weaker}
 use Rattle.std.proofs.shelf.Tests.{ltb-false, ltb-true}
-use Rattle.std.specs.declared.option.Option.the-variants.{Some, None}
 use Rattle.std.specs.declared.option.Option.{Option}
+use Rattle.std.specs.declared.option.Option.the-variants.{Some, None}
 use Rattle.std.specs.shelf.Lists.{All}
 
 -- a thread with another snapshot end and read log

@@ -7,7 +7,7 @@ use mathlib.Core.Path.{_≡_, refl, sym, subst}
 use Rattle.common.specs.declared.loss.Loss.{Loss}
 use Rattle.history.proofs.Alone.{alone-keeps}
 use Rattle.history.proofs.Holders.{hold-none}
-use Rattle.history.proofs.Invariant.{Fits, Front, Seat, Phase-fits}
+use Rattle.history.proofs.Invariant.{Fits, Front, Phase-fits, Seat}
 use Rattle.history.proofs.Phases.{running-fits, running-inside}
 use Rattle.history.proofs.Plan.{Kept}
 use Rattle.history.proofs.Quiet.{quiet-state}

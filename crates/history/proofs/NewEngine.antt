@@ -4,7 +4,7 @@ use mathlib.Core.List.{List, []}
 use mathlib.Core.Path.{_≡_, refl, ap, sym, subst, _∙_, fun-ext}
 use native.Mathlib.Omega.{arith}
 use Rattle.history.proofs.Holders.{bare-fits, bare-front}
-use Rattle.history.proofs.Invariant.{Front, Stripe-fits, Word-fits, Seat, front, hold-of}
+use Rattle.history.proofs.Invariant.{Front, Seat, Stripe-fits, Word-fits, front, hold-of}
 use Rattle.history.proofs.Maps.{at-everywhere}
 use Rattle.history.proofs.Plan.{New-fits}
 use Rattle.history.specs.Record.{newborn}

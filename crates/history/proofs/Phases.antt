@@ -9,7 +9,7 @@ use native.Mathlib.Omega.{arith}
 use Rattle.common.specs.declared.loss.Loss.{Loss}
 use Rattle.common.specs.declared.refusal.Refusal.{Refusal}
 use Rattle.common.specs.declared.refusal.Refusal.the-variants.{NoSuchThread, WrongState, AlreadyLost}
-use Rattle.history.proofs.Invariant.{Front, Phase-fits, Running-fits, Sealed-fits, Lost-fits, Seat}
+use Rattle.history.proofs.Invariant.{Front, Lost-fits, Phase-fits, Running-fits, Sealed-fits, Seat}
 use Rattle.history.specs.Record.{Transaction, Work}
 use Rattle.layout.specs.declared.set_up.SetUp.{SetUp}
 use Rattle.rules.specs.Admission.{admitted, is-for, is-idle, is-running, is-lost, is-thread, tells-loss}

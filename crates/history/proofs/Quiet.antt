@@ -6,7 +6,7 @@ use mathlib.Core.List.{List, []}
 use mathlib.Core.Logic.{inl, inr}
 use mathlib.Core.Path.{_≡_, refl, ap, sym, subst, _∙_, fun-ext}
 use Rattle.contention.specs.Events.{Event}
-use Rattle.history.proofs.Invariant.{Fits, Front, front, Stripe-fits, Word-fits, Seat, Seated, Draining, Spent}
+use Rattle.history.proofs.Invariant.{Draining, Fits, Front, Seat, Seated, Spent, Stripe-fits, Word-fits, front}
 use Rattle.history.proofs.Plan.{Kept, then}
 use Rattle.history.specs.Law.{updater, Loads-at, Point, Spared}
 use Rattle.history.specs.Record.{History, Work}

@@ -9,7 +9,7 @@ use mathlib.Core.Path.{_≡_, refl, ap, sym, subst, _∙_}
 use native.Mathlib.Omega.{arith}
 use Rattle.common.specs.declared.loss.Loss.the-variants.{Invalid}
 use Rattle.history.proofs.Holders.{free-hold, held-none-free}
-use Rattle.history.proofs.Invariant.{Marked, Fits, Hold, Overtaken, front, left-of, top, top-of}
+use Rattle.history.proofs.Invariant.{Fits, Hold, Marked, Overtaken, front, left-of, top, top-of}
 use Rattle.history.proofs.KeyedEntries.{all-both, keyed}
 use Rattle.history.proofs.Phases.{running-fits}
 use Rattle.history.proofs.SerialRuns.{since-moment}
@@ -23,8 +23,8 @@ use Rattle.rules.specs.declared.phase.Phase.the-variants.{Running}
 use Rattle.std.proofs.shelf.Elements.{all-weaker}
 use Rattle.std.proofs.shelf.Lists.{take-all}
 use Rattle.std.proofs.shelf.Tests.{and-parts, eq-eqb, eqb-true, and-from, both-ways, not-true, not-from-false}
-use Rattle.std.specs.declared.option.Option.the-variants.{Some, None}
 use Rattle.std.specs.declared.option.Option.{Option}
+use Rattle.std.specs.declared.option.Option.the-variants.{Some, None}
 use Rattle.std.specs.shelf.Lists.{All}
 
 module _ (ws : List ℕ) (base : ℕ) (w : World) (h : History) (f : Fits ws base w h) where

@@ -15,7 +15,7 @@ use Rattle.history.proofs.Holders.{hold-none}
 use Rattle.history.proofs.Invariant.{Fits, Seated, hold-of}
 use Rattle.history.proofs.Logs.{stored-logged}
 use Rattle.history.proofs.Losses.{lost-keeps}
-use Rattle.history.proofs.Maps.{at-put-same, at-put-other}
+use Rattle.history.proofs.Maps.{at-put-other, at-put-same}
 use Rattle.history.proofs.Phases.{running-fits, running-phase}
 use Rattle.history.proofs.Plan.{Kept, Seal-keeps}
 use Rattle.history.proofs.PutIn.{has-address}

@@ -6,9 +6,9 @@ use mathlib.Core.List.{List}
 use mathlib.Core.Logic.{_⊎_, inl, inr}
 use mathlib.Core.Path.{_≡_, refl, ap, sym, subst, _∙_}
 use native.Mathlib.Omega.{arith}
-use Rattle.history.proofs.Growth.{Grows, loads-grow, point-grows, overtaken-grows, spared-grows}
-use Rattle.history.proofs.Invariant.{Draining, Front, Mark-fits, Overtaken, Running-fits, Sealed-fits, Phase-fits, Seat}
-use Rattle.history.proofs.Lines.{fallen-before, present-other, leads-at}
+use Rattle.history.proofs.Growth.{Grows, loads-grow, overtaken-grows, point-grows, spared-grows}
+use Rattle.history.proofs.Invariant.{Draining, Front, Mark-fits, Overtaken, Phase-fits, Running-fits, Sealed-fits, Seat}
+use Rattle.history.proofs.Lines.{fallen-before, leads-at, present-other}
 use Rattle.history.proofs.Phases.{lost-fits}
 use Rattle.history.specs.Law.{updater}
 use Rattle.history.specs.Record.{History, Line, Transaction, Work, Fall, watched, fallen, caller, after-line}

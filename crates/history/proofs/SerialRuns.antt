@@ -120,4 +120,3 @@ module _ (u : SetUp) (s a : ℕ) (here : stripe-of u a ≡ s) where
   since-moment ws [] (suc m) none = refl
   since-moment ws (w ∷ us) (suc m) none =
       since-moment (moved-into ws (kept (w .calls))) us m (λ k low high. none (suc k) (omega arith) (omega arith))
-

@@ -10,9 +10,9 @@ use Rattle.common.specs.declared.refusal.Refusal.the-variants.{NoSuchPlace, Log
 use Rattle.contention.specs.Events.{Event, stripe-taken}
 use Rattle.history.proofs.GoingOn.{Left-or-beaten, Taken-by, goes-on-keeps}
 use Rattle.history.proofs.Holders.{free-hold}
-use Rattle.history.proofs.Invariant.{Runs-on, Fits, Front, Running-fits, front, stores-in}
+use Rattle.history.proofs.Invariant.{Fits, Front, Running-fits, Runs-on, front, stores-in}
 use Rattle.history.proofs.KeyedEntries.{found-has, grown-roomy, has-replaced, pushed-cases}
-use Rattle.history.proofs.Maps.{at-put-same, at-put-other}
+use Rattle.history.proofs.Maps.{at-put-other, at-put-same}
 use Rattle.history.proofs.Phases.{Admitted, running-fits, running-phase}
 use Rattle.history.proofs.Plan.{Kept, Store-keeps}
 use Rattle.history.proofs.PutIn.{address-of, has-address}
@@ -37,8 +37,8 @@ use Rattle.rules.specs.declared.call.Call.the-variants.{Store}
 use Rattle.rules.specs.declared.kind.Kind.the-variants.{Store as Storing}
 use Rattle.rules.specs.declared.phase.Phase.the-variants.{Running}
 use Rattle.std.proofs.shelf.Tests.{cases-eq, cond-false, cond-true, eq-eqb, eqb-true, or-left, or-right}
-use Rattle.std.specs.declared.option.Option.the-variants.{None}
 use Rattle.std.specs.declared.option.Option.{Option}
+use Rattle.std.specs.declared.option.Option.the-variants.{None}
 
 -- what is left to show of a transaction that stored: its log is the one that its stores make, of the addresses that it
 -- had and the new one, and of stripes it gained at most that of the new one

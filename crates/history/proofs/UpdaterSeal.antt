@@ -7,16 +7,16 @@ use mathlib.Core.Logic.{_⊎_, inl, inr}
 use mathlib.Core.Path.{_≡_, refl, ap, sym, subst, _∙_}
 use native.Mathlib.Omega.{arith}
 use Rattle.contention.specs.Events.{seal-of}
+use Rattle.history.proofs.Growth.{Grows, all-spared-grow, loads-grow, point-alike, point-grows, points-grow}
 use Rattle.history.proofs.Holders.{free-not-draining, hold-none}
-use Rattle.history.proofs.Growth.{Grows, loads-grow, point-alike, point-grows, points-grow, all-spared-grow}
-use Rattle.history.proofs.Invariant.{Fits, Front, Hold, Stripe-fits, Word-fits, Running-fits, Overtaken, Owns-log, Seat, Spent, front, hold-of, left-of, top, stores-in}
+use Rattle.history.proofs.Invariant.{Fits, Front, Hold, Overtaken, Owns-log, Running-fits, Seat, Spent, Stripe-fits, Word-fits, front, hold-of, left-of, stores-in, top}
 use Rattle.history.proofs.Lines.{leads-at, present-unlost, work-other}
 use Rattle.history.proofs.Logs.{misses-unowned, unowned-unstored}
 use Rattle.history.proofs.Phases.{running-fits}
 use Rattle.history.proofs.Plan.{Kept, then}
 use Rattle.history.proofs.PutIn.{put-in-misses, put-in-same}
-use Rattle.history.proofs.SerialRuns.{push-grows, sealed-word, serial-length}
 use Rattle.history.proofs.Seats.{Apart, draining-on, seat-apart, seat-other}
+use Rattle.history.proofs.SerialRuns.{push-grows, sealed-word, serial-length}
 use Rattle.history.specs.Law.{updater, Loads-at, Spared}
 use Rattle.history.specs.Record.{History, Line, Transaction, Work, Fall, called-seal, with-work, watched, rewritten, no-work}
 use Rattle.history.specs.Runs.{loss-in, line-of}

@@ -14,7 +14,7 @@ use Rattle.history.proofs.Holders.{not-other}
 use Rattle.history.proofs.Invariant.{Fits}
 use Rattle.history.proofs.Leaders.{leader-beats}
 use Rattle.history.proofs.Losses.{lost-keeps}
-use Rattle.history.proofs.Maps.{at-put-same, at-put-other}
+use Rattle.history.proofs.Maps.{at-put-other, at-put-same}
 use Rattle.history.proofs.Phases.{running-inside, running-phase, thread-not-zero}
 use Rattle.history.proofs.Plan.{Kept}
 use Rattle.history.proofs.Quiet.{quiet-state}
