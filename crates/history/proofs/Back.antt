@@ -9,7 +9,7 @@ use native.Mathlib.Omega.{arith}
 use Rattle.common.specs.declared.loss.Loss.{Loss}
 use Rattle.common.specs.declared.loss.Loss.the-variants.{Beaten, Invalid, ClockSpent, Stolen}
 use Rattle.history.proofs.Alone.{alone-holds, alone-keeps-owners}
-use Rattle.history.proofs.Growth.{grows-none, point-alike}
+use Rattle.history.proofs.Growth.{point-alike}
 use Rattle.history.proofs.Holders.{hold-none}
 use Rattle.history.proofs.Invariant.{Fits, Seated, front, hold-of}
 use Rattle.history.proofs.Lines.{fallen-before}
@@ -18,7 +18,7 @@ use Rattle.history.proofs.Phases.{lost-fits, running-fits}
 use Rattle.history.proofs.Plan.{Back-keeps, Kept}
 use Rattle.history.proofs.Refusals.{admitted-or-refused}
 use Rattle.history.proofs.Releases.{released-gains, released-keeps, released-nothing, released-other, released-own}
-use Rattle.history.proofs.Seats.{seat-apart}
+use Rattle.history.proofs.Seats.{seat-owners}
 use Rattle.history.specs.Law.{Excused, Spared}
 use Rattle.history.specs.Record.{History, Transaction, Work, Fall, called, ended-loss, fallen, leads, or-else, rewritten, watched, with-work}
 use Rattle.history.specs.Runs.{loss-in}
@@ -139,14 +139,7 @@ module _ (ws : List ℕ) (base : ℕ) (w : World) (h : History) (beats : Table) 
   -- another thread owns what it owned
   back-rest : (k : ℕ) → (k ≡ n → ⊥) → Back-seat k (thread-of (w .engine) k) (h .present k)
   back-rest k d =
-      seat-apart (grows-none ws (h .updaters)) (λ z live. record {
-        grows = grows-none ws (h .updaters);
-        newer = λ j low high e. omega arith;
-        same = λ j l e. refl;
-        gains = λ s e. released-gains (w .engine) n None s k z e;
-        keeps = λ busy s e. released-keeps (w .engine) n None s k d e;
-        fronts = λ s e. inl refl;
-      }) (f .seats k)
+      seat-owners (λ z s e. released-gains (w .engine) n None s k z e) (λ busy s e. released-keeps (w .engine) n None s k d e) (f .seats k)
 
   -- the caller's transaction: one more call, and the loss that it is told is on record
   abbrev went-back : Transaction

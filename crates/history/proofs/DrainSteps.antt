@@ -6,7 +6,7 @@ use mathlib.Core.List.{List, []}
 use mathlib.Core.Logic.{_⊎_, inl, inr}
 use mathlib.Core.Path.{_≡_, refl, ap, sym, subst, _∙_}
 use native.Mathlib.Omega.{arith}
-use Rattle.history.proofs.Growth.{Grows, all-spared-grow, loads-grow, point-alike, point-grows, points-grow}
+use Rattle.history.proofs.Growth.{Grows, all-spared-grow, loads-grow, point-alike, point-grows, points-grow, stores-same}
 use Rattle.history.proofs.Holders.{held-by}
 use Rattle.history.proofs.Invariant.{Draining, Fits, Front, Hold, Phase-fits, Sealed-fits, Seat, Spent, Stripe-fits, Word-fits, front, left-in, left-of, top, top-of}
 use Rattle.history.proofs.Lines.{leads-at, present-unlost, work-other}
@@ -19,7 +19,6 @@ use Rattle.history.specs.Law.{updater, Loads-at, Spared}
 use Rattle.history.specs.Record.{History, Line, Transaction, Work, Fall, called, with-work, watched, rewritten, no-work}
 use Rattle.history.specs.Runs.{loss-in, line-of}
 use Rattle.history.specs.Serial.{put-in, serial-run, not-drained}
-use Rattle.layout.specs.Lookups.{has-key}
 use Rattle.layout.specs.SetUps.{stripe-of}
 use Rattle.layout.specs.declared.set_up.SetUp.{SetUp}
 use Rattle.rules.specs.Admission.{is-thread}
@@ -132,8 +131,8 @@ module _ (ws : List ℕ) (base : ℕ) (w : World) (h : History) (beats : Table) 
         rises = omega (arith, x .rises s e, x .tops s e);
         by-clock = omega (arith, f .stripes s .by-clock, old, x .tops s e);
         untouched = λ k low high.
-            ap (has-key (λ y. stripe-of u (y .address)) s) (grown .stores k (omega (arith, same-length)))
-            ∙ f .stripes s .untouched k (omega (arith, old, x .tops s e)) (omega (arith, same-length));
+            let l : k < length us = omega (arith, same-length) in
+            stores-same grown u s k l ∙ f .stripes s .untouched k (omega (arith, old, x .tops s e)) l;
       }
   drained-stripe s (inr d) =
       subst (λ (y : Front). Stripe-fits u vs base (w .engine .clock) s y) (sym (x .fronts-other s d))
@@ -141,8 +140,8 @@ module _ (ws : List ℕ) (base : ℕ) (w : World) (h : History) (beats : Table) 
         rises = f .stripes s .rises;
         by-clock = f .stripes s .by-clock;
         untouched = λ k low high.
-            ap (has-key (λ y. stripe-of u (y .address)) s) (grown .stores k (omega (arith, same-length)))
-            ∙ f .stripes s .untouched k low (omega (arith, same-length));
+            let l : k < length us = omega (arith, same-length) in
+            stores-same grown u s k l ∙ f .stripes s .untouched k low l;
       })
 
   -- every word fits

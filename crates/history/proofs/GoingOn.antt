@@ -8,7 +8,6 @@ use mathlib.Core.Path.{_≡_, refl, ap, sym, subst, _∙_}
 use native.Mathlib.Omega.{arith}
 use Rattle.common.specs.declared.loss.Loss.the-variants.{Stolen}
 use Rattle.contention.specs.Events.{Event}
-use Rattle.history.proofs.Growth.{grows-none}
 use Rattle.history.proofs.Holders.{free-not-draining, hold-none, unsealed-hold}
 use Rattle.history.proofs.Invariant.{Draining, Fits, Phase-fits, Runs-on, Seated, front, hold-of}
 use Rattle.history.proofs.Leaders.{leader-beats}
@@ -17,7 +16,7 @@ use Rattle.history.proofs.Losses.{seat-lost}
 use Rattle.history.proofs.Phases.{running-fits, running-inside}
 use Rattle.history.proofs.Plan.{Kept, then}
 use Rattle.history.proofs.Quiet.{quiet-keeps, quiet-outcome, quiet-state}
-use Rattle.history.proofs.Seats.{draining-on, seat-apart, seat-other}
+use Rattle.history.proofs.Seats.{draining-on, seat-other, seat-owners}
 use Rattle.history.specs.Law.{Point, Spared}
 use Rattle.history.specs.Record.{History, Line, Transaction, Work, Fall, acted, caller, deed, fallen, leads, past-after, sealed-after, told-loss, watched, with-work}
 use Rattle.history.specs.Runs.{line-of, loss-in}
@@ -149,14 +148,7 @@ module _ (ws : List ℕ) (base : ℕ) (w : World) (h : History) (beats : Table) 
   seat-left k d same =
       seat-other h line d refl
       (subst (λ (t : Thread). Seated ws base w h (owner-of after) k t (h .present k)) (sym same)
-      (seat-apart (grows-none ws (h .updaters)) (λ z live. record {
-        grows = grows-none ws (h .updaters);
-        newer = λ j low high e. omega arith;
-        same = λ j l e. refl;
-        gains = λ s e. gains-none k s d e;
-        keeps = λ busy s e. keeps-all k s d same busy e;
-        fronts = λ s e. inl refl;
-      }) (f .seats k)))
+      (seat-owners (λ z s e. gains-none k s d e) (λ busy s e. keeps-all k s d same busy e) (f .seats k)))
 
   -- a leader is beaten by nobody
   leader-unbeaten : (k : ℕ) → (k ≡ caller c → ⊥) → beats (caller c) k ≡ true → leads beats k (w .engine .set-up .threads) ≡ true → ⊥

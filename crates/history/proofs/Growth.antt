@@ -8,7 +8,7 @@ use mathlib.Core.Path.{_≡_, refl, ap, sym, subst, _∙_}
 use native.Mathlib.Omega.{arith}
 use Rattle.common.specs.declared.loss.Loss.{Loss}
 use Rattle.common.specs.declared.loss.Loss.the-variants.{Beaten, Invalid, ClockSpent, Stolen}
-use Rattle.history.proofs.Invariant.{Overtaken}
+use Rattle.history.proofs.Invariant.{Overtaken, stores-in}
 use Rattle.history.specs.Law.{updater, words-at, Loads-at, Point, Stored-by-other, Excused, Spared}
 use Rattle.history.specs.Record.{Work, Fall, Transaction, no-work}
 use Rattle.history.specs.Serial.{kept, loaded-on}
@@ -61,11 +61,15 @@ module _ {ws : List ℕ} {us vs : List Work} (g : Grows ws us vs) where
     loads = loads-grow (p .moment) w (p .so-far) (p .loads);
   }
 
+  -- an updater of the first list stored in the same stripes
+  pub stores-same : (u : SetUp) (s k : ℕ) → k < length us → stores-in u s (updater vs k) ≡ stores-in u s (updater us k)
+  stores-same u s k l = ap (has-key (λ e. stripe-of u (e .address)) s) (g .stores k l)
+
   -- an updater that stored in a stripe did so still
   stored-grows : (u : SetUp) (n s k : ℕ) → k < length us → Stored-by-other u us n s k → Stored-by-other u vs n s k
   stored-grows u n s k l x = record {
     other = λ e. x .other (sym (g .threads k l) ∙ e);
-    stored = ap (has-key (λ e. stripe-of u (e .address)) s) (g .stores k l) ∙ x .stored;
+    stored = stores-same u s k l ∙ x .stored;
   }
 
   -- a stripe that was overtaken is so still

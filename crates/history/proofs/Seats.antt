@@ -6,7 +6,7 @@ use mathlib.Core.List.{List}
 use mathlib.Core.Logic.{_⊎_, inl, inr}
 use mathlib.Core.Path.{_≡_, refl, ap, sym, subst, _∙_}
 use native.Mathlib.Omega.{arith}
-use Rattle.history.proofs.Growth.{Grows, loads-grow, overtaken-grows, point-grows, spared-grows}
+use Rattle.history.proofs.Growth.{Grows, grows-none, loads-grow, overtaken-grows, point-grows, spared-grows}
 use Rattle.history.proofs.Invariant.{Draining, Front, Mark-fits, Overtaken, Phase-fits, Running-fits, Sealed-fits, Seat}
 use Rattle.history.proofs.Lines.{fallen-before, leads-at, present-other}
 use Rattle.history.proofs.Phases.{lost-fits}
@@ -116,6 +116,20 @@ module _ {u : SetUp} {ws : List ℕ} {us vs : List Work} {fs gs : ℕ → Front}
           subst (λ (p : Phase). Phase-fits u ws vs base gs owner′ n t (x .work) (x .fall) p)
           (sym (s .inside (ap (is-thread u) z))) (λ k e. z)
       go (inr z) = phase-apart base t (x .work) (x .fall) (t .phase) (s .named) (a z) (s .phase)
+
+-- where only owners changed, a thread keeps its seat if it gained no stripe and, if it runs or is sealed, lost none
+pub seat-owners : {u : SetUp} {ws : List ℕ} {us : List Work} {base : ℕ} {fs : ℕ → Front} {owner owner′ : ℕ → ℕ} {n : ℕ} {t : Thread}
+    {x : Transaction} → ((n ≡ 0 → ⊥) → (s : ℕ) → owner′ s ≡ n → owner s ≡ n) →
+    ((is-running (t .phase) || is-sealed (t .phase)) ≡ true → (s : ℕ) → owner s ≡ n → owner′ s ≡ n) →
+    Seat u ws us base fs owner n t x → Seat u ws us base fs owner′ n t x
+seat-owners {ws = ws} {us = us} gains keeps s = seat-apart (grows-none ws us) (λ z live. record {
+  grows = grows-none ws us;
+  newer = λ k low high e. omega arith;
+  same = λ k l e. refl;
+  gains = gains z;
+  keeps = keeps;
+  fronts = λ k e. inl refl;
+}) s
 
 module _ {u : SetUp} {ws : List ℕ} {us : List Work} {base : ℕ} {fs : ℕ → Front} {owner : ℕ → ℕ} {n : ℕ} {t : Thread} where
   -- a call that changes nothing of a thread leaves its seat: the loss that the engine keeps for it is on record already
