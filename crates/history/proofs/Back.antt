@@ -10,7 +10,7 @@ use Rattle.common.specs.declared.loss.Loss.{Loss}
 use Rattle.common.specs.declared.loss.Loss.the-variants.{Beaten, Invalid, ClockSpent, Stolen}
 use Rattle.history.proofs.Alone.{alone-holds, alone-keeps-owners}
 use Rattle.history.proofs.Growth.{point-alike}
-use Rattle.history.proofs.Holders.{hold-none}
+use Rattle.history.proofs.Holders.{free-by-phase}
 use Rattle.history.proofs.Invariant.{Fits, Seated, front, hold-of}
 use Rattle.history.proofs.Lines.{fallen-before}
 use Rattle.history.proofs.Maps.{at-put-other, at-put-same}
@@ -72,14 +72,14 @@ module _ (ws : List ℕ) (base : ℕ) (w : World) (h : History) (n : ℕ) (f : F
       Leaves (h .present n .work) (h .present n .fall) (thread-of (w .engine) n)
   leaves (inl e) = record {
     unnumbered = running-fits (f .seats n) e .unnumbered;
-    free = hold-none (thread-of (w .engine) n) Running e refl;
+    free = free-by-phase (thread-of (w .engine) n) Running e refl;
     told = λ m x p. ap (λ (q : Phase). fallen m x (or-else (ended-loss (ending-of q)) None)) e;
   }
   leaves (inr x) =
       let fits = lost-fits (f .seats n) (x .0) (x .1) in
       record {
         unnumbered = fits .unnumbered;
-        free = hold-none (thread-of (w .engine) n) (Lost (x .0)) (x .1) refl;
+        free = free-by-phase (thread-of (w .engine) n) (Lost (x .0)) (x .1) refl;
         told = λ m y p.
             ap (λ (q : Phase). fallen m y (or-else (ended-loss (ending-of q)) None)) (x .1)
             ∙ fallen-before m y (Some (x .0)) (fits .fall) (p ∙ fits .fallen);
@@ -131,7 +131,7 @@ module _ (ws : List ℕ) (base : ℕ) (w : World) (h : History) (beats : Table) 
       go : (owner-of (w .engine) s ≡ n) ⊎ (owner-of (w .engine) s ≡ n → ⊥) → front back-state s ≡ front (w .engine) s
       go (inl e) =
           show (stripe-at (w .engine) s .version) 0 (released-own (w .engine) n None s e) refl
-          (hold-none (thread-of (w .engine) 0) Idle no-owner-idle refl
+          (free-by-phase (thread-of (w .engine) 0) Idle no-owner-idle refl
           ∙ sym (ap (λ (k : ℕ). hold-of (thread-of (w .engine) k)) e ∙ x .free))
       go (inr d) =
           show (stripe-at (w .engine) s .version) (owner-of (w .engine) s) (released-other (w .engine) n None s d) refl refl

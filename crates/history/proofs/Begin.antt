@@ -7,7 +7,7 @@ use mathlib.Core.Path.{_≡_, refl, ap, sym, subst}
 use native.Mathlib.Omega.{arith}
 use Rattle.common.specs.declared.refusal.Refusal.the-variants.{RollPending}
 use Rattle.history.proofs.Alone.{alone-keeps}
-use Rattle.history.proofs.Holders.{hold-none}
+use Rattle.history.proofs.Holders.{free-by-phase}
 use Rattle.history.proofs.Invariant.{Fits, Seated, hold-of}
 use Rattle.history.proofs.Maps.{at-put-other, at-put-same}
 use Rattle.history.proofs.Phases.{Admitted, idle-fits, idle-phase, thread-not-zero}
@@ -68,7 +68,7 @@ module _ (ws : List ℕ) (base : ℕ) (w : World) (h : History) (beats : Table) 
   begin-runs =
       alone-keeps ws base w h beats (Begin n) Done [] (w .engine .mark) (put (w .engine .threads) n (fresh (w .engine .clock))) f
       (λ k d. at-put-other (w .engine .threads) n k (fresh (w .engine .clock)) d)
-      (hold-none (thread-of (w .engine) n) Idle idle refl)
+      (free-by-phase (thread-of (w .engine) n) Idle idle refl)
       (ap hold-of same) refl
       (subst (λ (t : Thread). Seated ws base w h (owner-of (w .engine)) n t
       (fallen (length (h .updaters)) (newborn n (length (h .updaters))) (loss-in (t .phase))))

@@ -9,7 +9,7 @@ use mathlib.Core.Path.{_≡_, refl, ap, sym, subst, _∙_}
 use native.Mathlib.Omega.{arith}
 use Rattle.common.specs.declared.refusal.Refusal.the-variants.{WrongState}
 use Rattle.history.proofs.DrainSteps.{Drain-step, drained-engine, drained-once, drained-outcome, step-keeps}
-use Rattle.history.proofs.Holders.{held-by, hold-none}
+use Rattle.history.proofs.Holders.{held-by, free-by-phase}
 use Rattle.history.proofs.Invariant.{Fits, Front, Phase-fits, Sealed-fits, front, hold-of, left-in, top, top-of}
 use Rattle.history.proofs.KeyedEntries.{has-dropped, never-has}
 use Rattle.history.proofs.Maps.{at-put-other, at-put-same}
@@ -186,7 +186,7 @@ module _ (ws : List ℕ) (base : ℕ) (w : World) (h : History) (beats : Table) 
     held-by-nobody : hold-of (at (entered (w .engine) n Idle) 0) ≡ None
     held-by-nobody =
         ap hold-of (other-entered Idle 0 (λ e. thread-not-zero u n inside (sym e)))
-        ∙ hold-none (thread-of (w .engine) 0) Idle (f .seats 0 .inside refl) refl
+        ∙ free-by-phase (thread-of (w .engine) 0) Idle (f .seats 0 .inside refl) refl
 
     -- what its stripes show
     front-off : (s : ℕ) → owners s ≡ n → front off s ≡ record { version = ticket; hold = None }

@@ -8,7 +8,7 @@ use mathlib.Core.Path.{_≡_, refl, ap, sym, subst, _∙_}
 use native.Mathlib.Omega.{arith}
 use Rattle.common.specs.declared.loss.Loss.the-variants.{Stolen}
 use Rattle.contention.specs.Events.{Event}
-use Rattle.history.proofs.Holders.{free-not-draining, hold-none, unsealed-hold}
+use Rattle.history.proofs.Holders.{free-not-draining, free-by-phase, free-unsealed}
 use Rattle.history.proofs.Invariant.{Draining, Fits, Phase-fits, Runs-on, Seated, front, hold-of}
 use Rattle.history.proofs.Leaders.{leader-beats}
 use Rattle.history.proofs.Lines.{leads-at, present-other, present-unlost, work-other}
@@ -88,13 +88,14 @@ module _ (ws : List ℕ) (base : ℕ) (w : World) (h : History) (beats : Table) 
       other : Left-or-beaten beats (caller c) k (thread-of (w .engine) k) (at ts k) → hold-of (at ts k) ≡ hold-of (thread-of (w .engine) k)
       other (inl e) = ap hold-of e
       other (inr b) =
-          hold-none (at ts k) (Lost (Stolen (caller c))) (b .stolen) refl
-          ∙ sym (hold-none (thread-of (w .engine) k) Running (b .ran) refl)
+          free-by-phase (at ts k) (Lost (Stolen (caller c))) (b .stolen) refl
+          ∙ sym (free-by-phase (thread-of (w .engine) k) Running (b .ran) refl)
 
       go : (k ≡ caller c) ⊎ (k ≡ caller c → ⊥) → hold-of (at ts k) ≡ hold-of (thread-of (w .engine) k)
       go (inl e) =
           subst (λ (j : ℕ). hold-of (at ts j) ≡ hold-of (thread-of (w .engine) j)) (sym e)
-          (hold-none (at ts (caller c)) Running (x .running) refl ∙ sym (hold-none (thread-of (w .engine) (caller c)) Running run refl))
+          (free-by-phase (at ts (caller c)) Running (x .running) refl
+          ∙ sym (free-by-phase (thread-of (w .engine) (caller c)) Running run refl))
       go (inr d) = other (x .others k d)
 
   -- so the stripes show what they showed
@@ -108,7 +109,9 @@ module _ (ws : List ℕ) (base : ℕ) (w : World) (h : History) (beats : Table) 
       }
       go (inr y) = λ i. record {
         version = y .version i;
-        hold = (ap (λ (k : ℕ). hold-of (at ts k)) (y .owner) ∙ hold-none (at ts (caller c)) Running (x .running) refl ∙ sym (y .free)) i;
+        hold =
+            (ap (λ (k : ℕ). hold-of (at ts k)) (y .owner) ∙ free-by-phase (at ts (caller c)) Running (x .running) refl
+            ∙ sym (y .free)) i;
       }
 
   -- another thread gains no stripe
@@ -134,7 +137,7 @@ module _ (ws : List ℕ) (base : ℕ) (w : World) (h : History) (beats : Table) 
           r
       was y (inr r) =
           both-ways (is-sealed (thread-of (w .engine) k .phase))
-          (unsealed-hold (thread-of (w .engine) k .writes) (thread-of (w .engine) k .phase)
+          (free-unsealed (thread-of (w .engine) k .writes) (thread-of (w .engine) k .phase)
           (ap (λ (j : ℕ). hold-of (thread-of (w .engine) j)) (sym e) ∙ y .free))
           r
 
@@ -216,12 +219,12 @@ module _ (ws : List ℕ) (base : ℕ) (w : World) (h : History) (beats : Table) 
   drains-on k y = draining-on y (same (x .others (y .thread) apart)) (work-other (w .engine .set-up) h line (y .thread) apart)
     where
       apart : y .thread ≡ caller c → ⊥
-      apart e = free-not-draining y (hold-none (thread-of (w .engine) (caller c)) Running run refl) e
+      apart e = free-not-draining y (free-by-phase (thread-of (w .engine) (caller c)) Running run refl) e
 
       same : Left-or-beaten beats (caller c) (y .thread) (thread-of (w .engine) (y .thread)) (at ts (y .thread)) →
           at ts (y .thread) ≡ thread-of (w .engine) (y .thread)
       same (inl e) = e
-      same (inr b) = absurd (free-not-draining y (hold-none (thread-of (w .engine) (y .thread)) Running (b .ran) refl) refl)
+      same (inr b) = absurd (free-not-draining y (free-by-phase (thread-of (w .engine) (y .thread)) Running (b .ran) refl) refl)
 
   -- a call that goes on keeps everything
   pub goes-on-keeps : Kept ws base w h beats c (quiet-outcome w a es after)

@@ -29,8 +29,8 @@ pub bare-fits : (u : SetUp) (us : List Work) (s : ℕ) → Stripe-fits u us (len
 bare-fits u us s = record { rises = omega arith; by-clock = omega arith; untouched = λ k low high. absurd (omega arith) }
 
 -- a thread in a phase that holds nothing
-pub hold-none : (t : Thread) (p : Phase) → t .phase ≡ p → hold-in (t .writes) p ≡ None → hold-of t ≡ None
-hold-none t p e h = ap (hold-in (t .writes)) e ∙ h
+pub free-by-phase : (t : Thread) (p : Phase) → t .phase ≡ p → hold-in (t .writes) p ≡ None → hold-of t ≡ None
+free-by-phase t p e h = ap (hold-in (t .writes)) e ∙ h
 
 -- stripes that are as they were show the same, if each thread holds as it held
 pub fronts-kept : (st st′ : State) → st′ .stripes ≡ st .stripes →
@@ -44,18 +44,18 @@ fronts-kept st st′ e h s = λ i. record {
     same k = ap (λ (m : Map Stripe). at m k) e
 
 -- a thread that is not sealed holds nothing
-hold-unsealed : (es : List WriteEntry) (p : Phase) → is-sealed p ≡ false → hold-in es p ≡ None
-hold-unsealed es Idle e = refl
-hold-unsealed es Running e = refl
-hold-unsealed es (Sealed t d) e = absurd (let z : _≡_ {A = ℕ} 0 1 = cc in omega arith)
-hold-unsealed es (Lost l) e = refl
+unsealed-free : (es : List WriteEntry) (p : Phase) → is-sealed p ≡ false → hold-in es p ≡ None
+unsealed-free es Idle e = refl
+unsealed-free es Running e = refl
+unsealed-free es (Sealed t d) e = absurd (let z : _≡_ {A = ℕ} 0 1 = cc in omega arith)
+unsealed-free es (Lost l) e = refl
 
 -- and one that holds nothing is not sealed
-pub unsealed-hold : (es : List WriteEntry) (p : Phase) → hold-in es p ≡ None → is-sealed p ≡ false
-unsealed-hold es Idle e = refl
-unsealed-hold es Running e = refl
-unsealed-hold es (Sealed t d) e = absurd (let z : _≡_ {A = ℕ} 0 1 = cc in omega arith)
-unsealed-hold es (Lost l) e = refl
+pub free-unsealed : (es : List WriteEntry) (p : Phase) → hold-in es p ≡ None → is-sealed p ≡ false
+free-unsealed es Idle e = refl
+free-unsealed es Running e = refl
+free-unsealed es (Sealed t d) e = absurd (let z : _≡_ {A = ℕ} 0 1 = cc in omega arith)
+free-unsealed es (Lost l) e = refl
 
 -- who is not another thread is nobody or the thread itself
 pub not-other : (n o : ℕ) → is-other n o ≡ false → (o ≡ 0) ⊎ (o ≡ n)
@@ -68,15 +68,15 @@ not-other n o e = go (and-cases (not (eqb o 0)) (not (eqb o n)) e)
 module _ (ws : List ℕ) (base : ℕ) (w : World) (h : History) (n s : ℕ) (f : Fits ws base w h)
     (run : thread-of (w .engine) n .phase ≡ Running) where
   -- a stripe that is not busy for a running thread shows no hold
-  pub free-hold : busy (w .engine) n s ≡ false → front (w .engine) s .hold ≡ None
-  free-hold free = go (and-cases (is-other n o) (is-sealed (thread-of (w .engine) o .phase)) free)
+  pub not-busy-free : busy (w .engine) n s ≡ false → front (w .engine) s .hold ≡ None
+  not-busy-free free = go (and-cases (is-other n o) (is-sealed (thread-of (w .engine) o .phase)) free)
     where
       o : ℕ
       o = owner-of (w .engine) s
 
       holds-at : (k : ℕ) → o ≡ k → (p : Phase) → thread-of (w .engine) k .phase ≡ p → hold-in (thread-of (w .engine) k .writes) p ≡ None →
           hold-of (thread-of (w .engine) o) ≡ None
-      holds-at k e p q x = ap (λ (j : ℕ). hold-of (thread-of (w .engine) j)) e ∙ hold-none (thread-of (w .engine) k) p q x
+      holds-at k e p q x = ap (λ (j : ℕ). hold-of (thread-of (w .engine) j)) e ∙ free-by-phase (thread-of (w .engine) k) p q x
 
       own : (o ≡ 0) ⊎ (o ≡ n) → hold-of (thread-of (w .engine) o) ≡ None
       own (inl e) = holds-at 0 e Idle (f .seats 0 .inside refl) refl
@@ -84,13 +84,13 @@ module _ (ws : List ℕ) (base : ℕ) (w : World) (h : History) (n s : ℕ) (f :
 
       go : (is-other n o ≡ false) ⊎ (is-sealed (thread-of (w .engine) o .phase) ≡ false) → hold-of (thread-of (w .engine) o) ≡ None
       go (inl e) = own (not-other n o e)
-      go (inr e) = hold-unsealed (thread-of (w .engine) o .writes) (thread-of (w .engine) o .phase) e
+      go (inr e) = unsealed-free (thread-of (w .engine) o .writes) (thread-of (w .engine) o .phase) e
 
 -- a stripe that shows no hold is busy for nobody
-pub held-none-free : (st : State) (n s : ℕ) → front st s .hold ≡ None → busy st n s ≡ false
-held-none-free st n s e =
+pub free-not-busy : (st : State) (n s : ℕ) → front st s .hold ≡ None → busy st n s ≡ false
+free-not-busy st n s e =
     and-right (is-other n (owner-of st s)) (is-sealed (thread-of st (owner-of st s) .phase))
-    (unsealed-hold (thread-of st (owner-of st s) .writes) (thread-of st (owner-of st s) .phase) e)
+    (free-unsealed (thread-of st (owner-of st s) .writes) (thread-of st (owner-of st s) .phase) e)
 
 -- a thread is sealed, or holds nothing
 pub sealed-or-free : (t : Thread) → ((k : ℕ) × (d : ℕ) × (t .phase ≡ Sealed k d)) ⊎ (hold-of t ≡ None)

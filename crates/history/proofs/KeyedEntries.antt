@@ -45,9 +45,9 @@ module _ {E : Type 0} (key : E → ℕ) where
       go false x = refl
 
   -- what holds of every entry holds of one that has the key
-  pub keyed : (k : ℕ) (P : E → Type 0) (es : List E) → All P es → has-key key k es ≡ true → (e : E) × (key e ≡ k) × P e
-  keyed k P [] x has = absurd (both-ways false refl has)
-  keyed k P (e ∷ es) x has = go (or-cases (eqb (key e) k) (has-key key k es) has) (keyed k P es (x .1))
+  pub entry-with-key : (k : ℕ) (P : E → Type 0) (es : List E) → All P es → has-key key k es ≡ true → (e : E) × (key e ≡ k) × P e
+  entry-with-key k P [] x has = absurd (both-ways false refl has)
+  entry-with-key k P (e ∷ es) x has = go (or-cases (eqb (key e) k) (has-key key k es) has) (entry-with-key k P es (x .1))
     where
       go : (eqb (key e) k ≡ true) ⊎ (has-key key k es ≡ true) → (has-key key k es ≡ true → (y : E) × (key y ≡ k) × P y) →
           (y : E) × (key y ≡ k) × P y

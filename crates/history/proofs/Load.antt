@@ -11,7 +11,7 @@ use Rattle.common.specs.declared.loss.Loss.the-variants.{Invalid}
 use Rattle.common.specs.declared.refusal.Refusal.the-variants.{NoSuchPlace, LogFull, StripeBusy}
 use Rattle.contention.specs.Events.{Event, word-loaded}
 use Rattle.history.proofs.GoingOn.{Left-or-beaten, goes-on-keeps}
-use Rattle.history.proofs.Holders.{free-hold}
+use Rattle.history.proofs.Holders.{not-busy-free}
 use Rattle.history.proofs.Invariant.{Fits, Front, Mark-fits, Marked, Running-fits, Runs-on, Same-read, front, has-stripe}
 use Rattle.history.proofs.KeyedEntries.{found-has, grown-roomy, has-before, has-pushed}
 use Rattle.history.proofs.Logs.{log-finds-kept}
@@ -286,7 +286,7 @@ module _ (ws : List ℕ) (base : ℕ) (w : World) (h : History) (beats : Table) 
     free-keeps : (b : Bool) → busy (w .engine) n loaded-stripe ≡ b →
         Kept ws base w h beats (Load n a) (load-free beats w n a loaded-stripe known b)
     free-keeps true p = refused-keeps ws base w h beats (Load n a) f StripeBusy
-    free-keeps false p = refresh-keeps (free-hold ws base w h n loaded-stripe f run p)
+    free-keeps false p = refresh-keeps (not-busy-free ws base w h n loaded-stripe f run p)
 
   -- the read log has room for it or not
   roomy-keeps : thread-of (w .engine) n .phase ≡ Running → a < length (w .words) →

@@ -6,7 +6,7 @@ use mathlib.Core.List.{List, []}
 use mathlib.Core.Path.{_≡_, refl, sym, subst}
 use Rattle.common.specs.declared.loss.Loss.{Loss}
 use Rattle.history.proofs.Alone.{alone-keeps}
-use Rattle.history.proofs.Holders.{hold-none}
+use Rattle.history.proofs.Holders.{free-by-phase}
 use Rattle.history.proofs.Invariant.{Fits, Front, Phase-fits, Seat}
 use Rattle.history.proofs.Phases.{running-fits, running-inside}
 use Rattle.history.proofs.Plan.{Kept}
@@ -58,8 +58,8 @@ pub lost-keeps : (ws : List ℕ) (base : ℕ) (w : World) (h : History) (beats :
     Kept ws base w h beats c (lost w l (quiet-state (w .engine) m (w .engine .stripes) ts))
 lost-keeps ws base w h beats c l m ts f was is others excused =
     alone-keeps ws base w h beats c (AnsweredLost l) [] m ts f others
-    (hold-none (thread-of (w .engine) (caller c)) Running was refl)
-    (hold-none (at ts (caller c)) (Lost l) is refl) refl
+    (free-by-phase (thread-of (w .engine) (caller c)) Running was refl)
+    (free-by-phase (at ts (caller c)) (Lost l) is refl) refl
     (seat-lost (h .present (caller c)) l (length (h .updaters)) (leads beats (caller c) (w .engine .set-up .threads))
     (f .seats (caller c)) was is excused)
     (f .past-points) (f .past-spared)

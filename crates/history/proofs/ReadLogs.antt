@@ -8,9 +8,9 @@ use mathlib.Core.Logic.{_⊎_, inl, inr}
 use mathlib.Core.Path.{_≡_, refl, ap, sym, subst, _∙_}
 use native.Mathlib.Omega.{arith}
 use Rattle.common.specs.declared.loss.Loss.the-variants.{Invalid}
-use Rattle.history.proofs.Holders.{free-hold, held-none-free}
+use Rattle.history.proofs.Holders.{not-busy-free, free-not-busy}
 use Rattle.history.proofs.Invariant.{Fits, Hold, Marked, Overtaken, front, left-of, top, top-of}
-use Rattle.history.proofs.KeyedEntries.{all-both, keyed}
+use Rattle.history.proofs.KeyedEntries.{all-both, entry-with-key}
 use Rattle.history.proofs.Phases.{running-fits}
 use Rattle.history.proofs.SerialRuns.{since-moment}
 use Rattle.history.specs.Law.{Excused, Loads-at, words-at}
@@ -84,7 +84,7 @@ module _ (ws : List ℕ) (base : ℕ) (w : World) (h : History) (n : ℕ) (f : F
       let p = and-parts (eqb (stripe-at (w .engine) (e .stripe) .version) (e .version)) (not (busy (w .engine) n (e .stripe))) valid in
       let v = eqb-true (stripe-at (w .engine) (e .stripe) .version) (e .version) (p .0) in
       word-stays ws base w h f (e .stripe) a (base + thread-of (w .engine) n .snapshot) (sym here)
-      (free-hold ws base w h n (e .stripe) f run (not-true (busy (w .engine) n (e .stripe)) (p .1)))
+      (not-busy-free ws base w h n (e .stripe) f run (not-true (busy (w .engine) n (e .stripe)) (p .1)))
       (omega (arith, v, old))
 
   -- so with valid entries only the loads agree at the present moment
@@ -97,7 +97,7 @@ module _ (ws : List ℕ) (base : ℕ) (w : World) (h : History) (n : ℕ) (f : F
       running-fits (f .seats n) run .covered
       (serial-run ws (h .updaters)) (words-at ws (h .updaters) (base + thread-of (w .engine) n .snapshot))
       (λ a has. agrees a
-      (keyed (λ (e : ReadMark). e .stripe) (stripe-of (w .engine .set-up) a) Valid-old (thread-of (w .engine) n .reads) old has))
+      (entry-with-key (λ (e : ReadMark). e .stripe) (stripe-of (w .engine .set-up) a) Valid-old (thread-of (w .engine) n .reads) old has))
       ∙ running-fits (f .seats n) run .loads
     where
       agrees : (a : ℕ) → (e : ReadMark) × (e .stripe ≡ stripe-of (w .engine .set-up) a) × Valid-old e →
@@ -122,7 +122,7 @@ module _ (ws : List ℕ) (base : ℕ) (w : World) (h : History) (n : ℕ) (f : F
       go (inl x) = absurd (both-ways (is-valid (w .engine) n e) bad
           (and-from (eqb (stripe-at (w .engine) (e .stripe) .version) (e .version)) (not (busy (w .engine) n (e .stripe)))
           (eq-eqb (stripe-at (w .engine) (e .stripe) .version) (e .version) (x .0))
-          (not-from-false (busy (w .engine) n (e .stripe)) (held-none-free (w .engine) n (e .stripe) (x .1)))))
+          (not-from-false (busy (w .engine) n (e .stripe)) (free-not-busy (w .engine) n (e .stripe) (x .1)))))
       go (inr x) = x
 
 -- a read log with no invalid entry lets the snapshot end be the present moment
@@ -139,7 +139,9 @@ pub invalid-excuses : (ws : List ℕ) (base : ℕ) (w : World) (h : History) (n 
     thread-of (w .engine) n .phase ≡ Running → first-invalid (w .engine) n (thread-of (w .engine) n .reads) ≡ Some s →
     Excused (w .engine .set-up) (h .updaters) (h .present n .work) (length (h .updaters)) (Invalid s)
 invalid-excuses ws base w h n s f run some =
-    let x = invalid-entry (w .engine) n s (Marked w h n (thread-of (w .engine) n .snapshot)) (thread-of (w .engine) n .reads) (running-fits (f .seats n) run .marks) some in
+    let x =
+    invalid-entry (w .engine) n s (Marked w h n (thread-of (w .engine) n .snapshot)) (thread-of (w .engine) n .reads)
+    (running-fits (f .seats n) run .marks) some in
     subst (λ (t : ℕ). Overtaken (w .engine .set-up) (h .updaters) t (h .present n .work .begun) s) (sym (f .seats n .named))
     (subst (λ (t : ℕ). Overtaken (w .engine .set-up) (h .updaters) n (h .present n .work .begun) t) (x .1)
     (invalid-overtaken ws base w h n f run (x .0) (x .2) (x .3)))

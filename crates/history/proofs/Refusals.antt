@@ -41,7 +41,8 @@ module _ (ws : List ℕ) (base : ℕ) (w : World) (h : History) (beats : Table) 
   refused-seat r n (inr d) = seat-other h (line-of beats c (refuse w r)) d refl (f .seats n)
 
   -- and each work
-  refused-work : (r : Refusal) (n : ℕ) → (n ≡ caller c) ⊎ (n ≡ caller c → ⊥) → then w h beats c (refuse w r) .present n .work ≡ h .present n .work
+  refused-work : (r : Refusal) (n : ℕ) → (n ≡ caller c) ⊎ (n ≡ caller c → ⊥) →
+      then w h beats c (refuse w r) .present n .work ≡ h .present n .work
   refused-work r n (inl e) =
       ap (λ (y : Transaction). y .work) (refused-caller r n e)
       ∙ fallen-work (length (h .updaters)) (watched (leads-at (w .engine .set-up) (line-of beats c (refuse w r)) n) (h .present n))

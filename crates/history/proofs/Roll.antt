@@ -7,7 +7,7 @@ use mathlib.Core.Logic.{_⊎_, inl, inr}
 use mathlib.Core.Path.{_≡_, refl, ap, sym, subst, _∙_, fun-ext}
 use native.Mathlib.Omega.{arith}
 use Rattle.common.specs.declared.refusal.Refusal.the-variants.{RollNotDue, ThreadsActive}
-use Rattle.history.proofs.Holders.{bare-fits, bare-front, free-not-draining, hold-none}
+use Rattle.history.proofs.Holders.{bare-fits, bare-front, free-not-draining, free-by-phase}
 use Rattle.history.proofs.Invariant.{Fits, Front, Phase-fits, Seat, Spent, Stripe-fits, Word-fits, front, hold-of, left-of}
 use Rattle.history.proofs.Lines.{leads-at, present-caller}
 use Rattle.history.proofs.Maps.{at-each}
@@ -66,7 +66,7 @@ module _ (ws : List ℕ) (base : ℕ) (w : World) (h : History) (beats : Table) 
 
   -- so no thread holds anything
   all-free : (n : ℕ) → hold-of (thread-of (w .engine) n) ≡ None
-  all-free n = hold-none (thread-of (w .engine) n) Idle (all-idle n) refl
+  all-free n = free-by-phase (thread-of (w .engine) n) Idle (all-idle n) refl
 
   -- stripes have the owners that they had, and show version 0
   rolled-owner : (s : ℕ) → owner-of (rolled (w .engine)) s ≡ owner-of (w .engine) s

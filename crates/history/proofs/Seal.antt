@@ -11,7 +11,7 @@ use Rattle.common.specs.declared.loss.Loss.the-variants.{Invalid, ClockSpent}
 use Rattle.contention.specs.Events.{seal-of}
 use Rattle.history.proofs.Alone.{alone-keeps}
 use Rattle.history.proofs.Growth.{point-alike}
-use Rattle.history.proofs.Holders.{hold-none}
+use Rattle.history.proofs.Holders.{free-by-phase}
 use Rattle.history.proofs.Invariant.{Fits, Seated, hold-of}
 use Rattle.history.proofs.Logs.{stored-logged}
 use Rattle.history.proofs.Losses.{lost-keeps}
@@ -59,7 +59,7 @@ module _ (ws : List ℕ) (base : ℕ) (w : World) (h : History) (beats : Table) 
   reader-keeps empty =
       alone-keeps ws base w h beats (Seal n) (AnsweredSealed (Reader (thread-of (w .engine) n .snapshot))) (seal-of n ∷ [])
       (w .engine .mark) (put (w .engine .threads) n idle) f (λ k d. at-put-other (w .engine .threads) n k idle d)
-      (hold-none (thread-of (w .engine) n) Running running refl) (ap hold-of same)
+      (free-by-phase (thread-of (w .engine) n) Running running refl) (ap hold-of same)
       (ap (λ (o : Option ℕ). rewritten o (reader .work) (h .updaters)) (running-fits (f .seats n) running .unnumbered))
       (subst (λ (t : Thread). Seated ws base w h (owner-of (w .engine)) n t (fallen (length (h .updaters)) reader (loss-in (t .phase))))
       (sym same)
@@ -108,7 +108,8 @@ module _ (ws : List ℕ) (base : ℕ) (w : World) (h : History) (beats : Table) 
   -- a seal that loses the transaction
   loses-keeps : (l : Loss) (m : Bool) → Excused (w .engine .set-up) (h .updaters) (h .present n .work) (length (h .updaters)) l →
       Kept ws base w h beats (Seal n)
-      (lost w l (quiet-state (w .engine) m (w .engine .stripes) (put (w .engine .threads) n (with-phase (thread-of (w .engine) n) (Lost l)))))
+      (lost w l (quiet-state (w .engine) m (w .engine .stripes)
+      (put (w .engine .threads) n (with-phase (thread-of (w .engine) n) (Lost l)))))
   loses-keeps l m x =
       let t = with-phase (thread-of (w .engine) n) (Lost l) in
       lost-keeps ws base w h beats (Seal n) l m (put (w .engine .threads) n t) f running

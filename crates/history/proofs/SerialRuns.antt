@@ -48,9 +48,9 @@ serial-pushed ws [] w = refl
 serial-pushed ws (x ∷ us) w = serial-pushed (moved-into ws (kept (x .calls))) us w
 
 -- at an address that comes to putting in its write log
-pub sealed-word : (ws : List ℕ) (us : List Work) (w : Work) (a : ℕ) → a < length (serial-run ws us) →
+pub serial-pushed-word : (ws : List ℕ) (us : List Work) (w : Work) (a : ℕ) → a < length (serial-run ws us) →
     getD (serial-run ws (us ++ w ∷ [])) a 0 ≡ getD (put-in (serial-run ws us) (write-log (w .calls))) a 0
-sealed-word ws us w a l =
+serial-pushed-word ws us w a l =
     ap (λ (xs : List ℕ). getD xs a 0) (serial-pushed ws us w)
     ∙ moved-finds (serial-run ws us) (kept (w .calls)) a l
     ∙ ap (word-or (getD (serial-run ws us) a 0)) (sym (log-finds-kept (w .calls) a))

@@ -9,7 +9,7 @@ use mathlib.Core.Path.{_≡_, refl, ap, sym, subst, _∙_}
 use Rattle.common.specs.declared.refusal.Refusal.the-variants.{NoSuchPlace, LogFull, StripeBusy}
 use Rattle.contention.specs.Events.{Event, stripe-taken}
 use Rattle.history.proofs.GoingOn.{Left-or-beaten, Taken-by, goes-on-keeps}
-use Rattle.history.proofs.Holders.{free-hold}
+use Rattle.history.proofs.Holders.{not-busy-free}
 use Rattle.history.proofs.Invariant.{Fits, Front, Running-fits, Runs-on, front, stores-in}
 use Rattle.history.proofs.KeyedEntries.{found-has, grown-roomy, has-replaced, pushed-cases}
 use Rattle.history.proofs.Maps.{at-put-other, at-put-same}
@@ -248,7 +248,7 @@ module _ (ws : List ℕ) (base : ℕ) (w : World) (h : History) (beats : Table)
         (w .engine .threads) f run (record { own = refl; others = λ k d. refl })
         (store-won w n a v (stripe-of (w .engine .set-up) a)) (λ l st. refl)
         (λ ts es won. won-keeps ws base w h beats n a v f run fresh roomy
-        (free-hold ws base w h n (stripe-of (w .engine .set-up) a) f run p) ts won es)
+        (not-busy-free ws base w h n (stripe-of (w .engine .set-up) a) f run p) ts won es)
 
     -- the write log has room or not
     roomy-keeps : has-written (thread-of (w .engine) n) a ≡ false → (b : Bool) → is-full (thread-of (w .engine) n .writes) ≡ b →

@@ -8,7 +8,7 @@ use mathlib.Core.Path.{_≡_, refl, ap, sym, subst, _∙_}
 use native.Mathlib.Omega.{arith}
 use Rattle.contention.specs.Events.{seal-of}
 use Rattle.history.proofs.Growth.{Grows, all-spared-grow, loads-grow, point-alike, point-grows, points-grow}
-use Rattle.history.proofs.Holders.{free-not-draining, hold-none}
+use Rattle.history.proofs.Holders.{free-not-draining, free-by-phase}
 use Rattle.history.proofs.Invariant.{Fits, Front, Hold, Overtaken, Owns-log, Running-fits, Seat, Spent, Stripe-fits, Word-fits, front, hold-of, left-of, stores-in, top}
 use Rattle.history.proofs.Lines.{leads-at, present-unlost, work-other}
 use Rattle.history.proofs.Logs.{misses-unowned, unowned-unstored}
@@ -16,7 +16,7 @@ use Rattle.history.proofs.Phases.{running-fits}
 use Rattle.history.proofs.Plan.{Kept, then}
 use Rattle.history.proofs.PutIn.{put-in-misses, put-in-same}
 use Rattle.history.proofs.Seats.{Apart, draining-on, seat-apart, seat-other}
-use Rattle.history.proofs.SerialRuns.{push-grows, sealed-word, serial-length}
+use Rattle.history.proofs.SerialRuns.{push-grows, serial-pushed-word, serial-length}
 use Rattle.history.specs.Law.{updater, Loads-at, Spared}
 use Rattle.history.specs.Record.{History, Line, Transaction, Work, Fall, called-seal, with-work, watched, rewritten, no-work}
 use Rattle.history.specs.Runs.{loss-in, line-of}
@@ -157,7 +157,7 @@ module _ (ws : List ℕ) (base : ℕ) (w : World) (h : History) (beats : Table) 
   -- no sealed thread holds a stripe of a running one
   held-by-none : (s : ℕ) → owners s ≡ n → front (w .engine) s .hold ≡ None
   held-by-none s e =
-      ap (λ (k : ℕ). hold-of (thread-of (w .engine) k)) e ∙ hold-none (thread-of (w .engine) n) Running running refl
+      ap (λ (k : ℕ). hold-of (thread-of (w .engine) k)) e ∙ free-by-phase (thread-of (w .engine) n) Running running refl
 
   -- every word fits
   sealed-words : (a : ℕ) → a < length (w .words) →
@@ -166,13 +166,13 @@ module _ (ws : List ℕ) (base : ℕ) (w : World) (h : History) (beats : Table) 
   sealed-words a l (inl e) =
       let s = stripe-of u a in
       let long : a < length (serial-run ws us) = omega (arith, serial-length ws us, f .sized) in
-      sealed-word ws us (new-updater h n) a long
+      serial-pushed-word ws us (new-updater h n) a long
       ∙ put-in-same (serial-run ws us) (w .words) (write-log (mine .calls)) a long l
       (f .words a l ∙ ap (λ (o : Option Hold). getD (put-in (w .words) (left-of o)) a 0) (held-by-none s e))
       ∙ ap (λ (es : List WriteEntry). getD (put-in (w .words) es) a 0) (sym (run .log))
       ∙ ap (λ (x : Front). getD (put-in (w .words) (left-of (x .hold))) a 0) (sym (front-own s e))
   sealed-words a l (inr d) =
-      sealed-word ws us (new-updater h n) a (omega (arith, serial-length ws us, f .sized))
+      serial-pushed-word ws us (new-updater h n) a (omega (arith, serial-length ws us, f .sized))
       ∙ put-in-misses (serial-run ws us) (write-log (mine .calls)) a (misses-unowned u owners n (write-log (mine .calls)) a owns d)
       ∙ f .words a l
       ∙ ap (λ (x : Front). getD (put-in (w .words) (left-of (x .hold))) a 0) (sym (front-other (stripe-of u a) d))
@@ -264,7 +264,7 @@ module _ (ws : List ℕ) (base : ℕ) (w : World) (h : History) (beats : Table) 
       go : Spent (w .engine) h k → Spent after next k
       go (inl e) = inl (ap not-drained (pushed-old h n k l) ∙ e)
       go (inr x) =
-          let d = free-not-draining x (hold-none (thread-of (w .engine) n) Running running refl) in
+          let d = free-not-draining x (free-by-phase (thread-of (w .engine) n) Running running refl) in
           inr (draining-on x (apart (x .thread) d) (work-other u h line (x .thread) d))
   sealed-spent k high (inr l) = inr (record {
     thread = n;
