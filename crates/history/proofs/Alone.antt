@@ -11,7 +11,7 @@ use Rattle.history.proofs.Invariant.{Draining, Fits, Seated, front, hold-of}
 use Rattle.history.proofs.Lines.{present-caller, work-other}
 use Rattle.history.proofs.Plan.{Kept, then}
 use Rattle.history.proofs.Quiet.{quiet-keeps, quiet-outcome, quiet-state}
-use Rattle.history.proofs.Seats.{draining-on, seat-other}
+use Rattle.history.proofs.Seats.{draining-on, seats-after}
 use Rattle.history.specs.Law.{Point, Spared}
 use Rattle.history.specs.Record.{History, Line, Transaction, acted, caller, deed, fallen, leads, or-else, told-loss, watched}
 use Rattle.history.specs.Runs.{line-of, loss-in}
@@ -40,7 +40,7 @@ module _ (ws : List ℕ) (base : ℕ) (w : World) (h : History) (beats : Table) 
   alone-history = then w h beats c (quiet-outcome w a es alone-state)
 
   -- the caller's transaction after the call
-  abbrev caller-after : Transaction
+  abbrev pub caller-after : Transaction
   caller-after =
       fallen (length (h .updaters))
       (acted c (length (h .updaters)) (watched (leads beats (caller c) (w .engine .set-up .threads)) (h .present (caller c))) (deed c a))
@@ -53,18 +53,6 @@ module _ (ws : List ℕ) (base : ℕ) (w : World) (h : History) (beats : Table) 
       go : (n ≡ caller c) ⊎ (n ≡ caller c → ⊥) → hold-of (at ts n) ≡ hold-of (thread-of (w .engine) n)
       go (inl p) = subst (λ (k : ℕ). hold-of (at ts k) ≡ hold-of (thread-of (w .engine) k)) (sym p) (e ∙ sym free)
       go (inr d) = ap hold-of (others n d)
-
-  -- each seat after the call, from the caller's and from those of the others as they were before it
-  alone-seat : Seated ws base w h (owner-of alone-state) (caller c) (at ts (caller c)) caller-after →
-      ((n : ℕ) → (n ≡ caller c → ⊥) → Seated ws base w h (owner-of alone-state) n (thread-of (w .engine) n) (h .present n)) →
-      (n : ℕ) → (n ≡ caller c) ⊎ (n ≡ caller c → ⊥) → Seated ws base w h (owner-of alone-state) n (at ts n) (alone-history .present n)
-  alone-seat own rest n (inl e) =
-      subst (λ (k : ℕ). Seated ws base w h (owner-of alone-state) k (at ts k) (alone-history .present k)) (sym e)
-      (subst (λ (y : Transaction). Seated ws base w h (owner-of alone-state) (caller c) (at ts (caller c)) y)
-      (sym (present-caller (w .engine .set-up) h alone-line (caller c) refl)) own)
-  alone-seat own rest n (inr d) =
-      seat-other h alone-line d refl
-      (subst (λ (t : Thread). Seated ws base w h (owner-of alone-state) n t (h .present n)) (sym (others n d)) (rest n d))
 
   -- a sealed thread is not the caller, so it drains as before
   alone-drains : (k : ℕ) → Draining (w .engine) h k → Draining alone-state alone-history k
@@ -83,14 +71,17 @@ module _ (ws : List ℕ) (base : ℕ) (w : World) (h : History) (beats : Table) 
   alone-keeps-owners fronts updaters own rest points spared = quiet-keeps ws base w h beats c a es m ss ts f (record {
     fronts = fronts;
     updaters = updaters;
-    seats = λ n. alone-seat own rest n (cases-eq n (caller c));
+    seats =
+        seats-after h alone-line (λ k. thread-of (w .engine) k) (λ k. at ts k) others (λ k. refl)
+        (subst (λ (y : Transaction). Seated ws base w h (owner-of alone-state) (caller c) (at ts (caller c)) y)
+        (sym (present-caller (w .engine .set-up) h alone-line (caller c) refl)) own) rest;
     drains = alone-drains;
     past-points = points;
     past-spared = spared;
   })
 
 -- the history that such a call leaves if it leaves the stripes too
-abbrev alone-left : World → History → Table → Call → Answer → List Event → Bool → Map Thread → History
+abbrev pub alone-left : World → History → Table → Call → Answer → List Event → Bool → Map Thread → History
 alone-left w h beats c a es m ts = then w h beats c (quiet-outcome w a es (quiet-state (w .engine) m (w .engine .stripes) ts))
 
 -- such a call that leaves the stripes too keeps the invariant, once its caller's seat is known

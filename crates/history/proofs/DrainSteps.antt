@@ -13,7 +13,7 @@ use Rattle.history.proofs.Lines.{leads-at, present-unlost, work-other}
 use Rattle.history.proofs.Plan.{Kept, then}
 use Rattle.history.proofs.PutIn.{put-in-same}
 use Rattle.history.proofs.Quiet.{quiet-state}
-use Rattle.history.proofs.Seats.{Apart, draining-on, seat-apart, seat-other}
+use Rattle.history.proofs.Seats.{Apart, draining-on, seat-apart, seats-after}
 use Rattle.history.proofs.SerialRuns.{drain-grows}
 use Rattle.history.specs.Law.{updater, Loads-at, Spared}
 use Rattle.history.specs.Record.{History, Line, Transaction, Work, Fall, called, with-work, watched, rewritten, no-work}
@@ -194,17 +194,6 @@ module _ (ws : List ℕ) (base : ℕ) (w : World) (h : History) (beats : Table) 
   drained-present : next .present n ≡ with-work (watched (leads-at u line n) (h .present n)) mine
   drained-present = present-unlost u h line refl (x .unlost)
 
-  -- every thread's seat
-  drained-seat : (k : ℕ) → (k ≡ n) ⊎ (k ≡ n → ⊥) → Seat u ws vs base (front after) (owner-of after) k (at ts k) (next .present k)
-  drained-seat k (inl e) =
-      subst (λ (i : ℕ). Seat u ws vs base (front after) (owner-of after) i (at ts i) (next .present i)) (sym e)
-      (subst (λ (y : Transaction). Seat u ws vs base (front after) (owner-of after) n (at ts n) y) (sym drained-present)
-      (drained-seat-own (leads-at u line n)))
-  drained-seat k (inr d) =
-      seat-other h line d refl
-      (subst (λ (t : Thread). Seat u ws vs base (front after) (owner-of after) k t (h .present k)) (sym (x .apart k d))
-      (seat-apart grown (λ z live. others-apart k z d) (f .seats k)))
-
   -- the caller's updater
   spent-own : Goes-on-draining (at ts n) mine → Spent after next (q .place)
   spent-own (inl e) = inl (ap not-drained drained-own ∙ e)
@@ -257,7 +246,11 @@ module _ (ws : List ℕ) (base : ℕ) (w : World) (h : History) (beats : Table) 
           count = same-length ∙ f .count;
           stripes = λ s. drained-stripe s (cases-eq (owner-of (w .engine) s) n);
           words = λ a l. drained-words a (omega (arith, x .sized)) (cases-eq (owner-of (w .engine) (stripe-of u a)) n);
-          seats = λ k. drained-seat k (cases-eq k n);
+          seats =
+              seats-after h line (λ k. thread-of (w .engine) k) (λ k. at ts k) (x .apart) (λ k. refl)
+              (subst (λ (y : Transaction). Seat u ws vs base (front after) (owner-of after) n (at ts n) y) (sym drained-present)
+              (drained-seat-own (leads-at u line n)))
+              (λ k d. seat-apart grown (λ z live. others-apart k z d) (f .seats k));
           spent = λ k l. drained-spent k (omega (arith, same-length)) (cases-eq k (q .place));
           loads = λ k l. drained-loads k (omega (arith, same-length)) (cases-eq k (q .place));
           past-points = points-grow grown (h .past) (f .past-points);

@@ -10,7 +10,7 @@ use Rattle.history.proofs.Lines.{fallen-work, leads-at, present-caller, work-o
 use Rattle.history.proofs.Phases.{Admitted, admitted-parts}
 use Rattle.history.proofs.Plan.{Kept, then}
 use Rattle.history.proofs.Quiet.{quiet-keeps}
-use Rattle.history.proofs.Seats.{draining-on, seat-other, seat-watched}
+use Rattle.history.proofs.Seats.{draining-on, seat-watched, seats-after}
 use Rattle.history.specs.Record.{History, Transaction, caller, watched, fallen}
 use Rattle.history.specs.Runs.{line-of, losses-of}
 use Rattle.rules.specs.Admission.{admitted}
@@ -32,15 +32,7 @@ module _ (ws : List ℕ) (base : ℕ) (w : World) (h : History) (beats : Table) 
       (losses-of (w .engine) n)
   refused-caller r n e = present-caller (w .engine .set-up) h (line-of beats c (refuse w r)) n e
 
-  -- so each seat is as it was
-  refused-seat : (r : Refusal) (n : ℕ) → (n ≡ caller c) ⊎ (n ≡ caller c → ⊥) →
-      Seated ws base w h (owner-of (w .engine)) n (thread-of (w .engine) n) (then w h beats c (refuse w r) .present n)
-  refused-seat r n (inl e) =
-      subst (λ (y : Transaction). Seated ws base w h (owner-of (w .engine)) n (thread-of (w .engine) n) y) (sym (refused-caller r n e))
-      (seat-watched (length (h .updaters)) (leads-at (w .engine .set-up) (line-of beats c (refuse w r)) n) (h .present n) (f .seats n))
-  refused-seat r n (inr d) = seat-other h (line-of beats c (refuse w r)) d refl (f .seats n)
-
-  -- and each work
+  -- so each work is as it was
   refused-work : (r : Refusal) (n : ℕ) → (n ≡ caller c) ⊎ (n ≡ caller c → ⊥) →
       then w h beats c (refuse w r) .present n .work ≡ h .present n .work
   refused-work r n (inl e) =
@@ -54,7 +46,13 @@ module _ (ws : List ℕ) (base : ℕ) (w : World) (h : History) (beats : Table) 
   refused-keeps r = quiet-keeps ws base w h beats c (Refused r) [] (w .engine .mark) (w .engine .stripes) (w .engine .threads) f (record {
     fronts = λ s. refl;
     updaters = refl;
-    seats = λ n. refused-seat r n (cases-eq n (caller c));
+    seats =
+        seats-after h (line-of beats c (refuse w r)) (λ k. thread-of (w .engine) k) (λ k. thread-of (w .engine) k) (λ k d. refl) (λ k. refl)
+        (subst (λ (y : Transaction). Seated ws base w h (owner-of (w .engine)) (caller c) (thread-of (w .engine) (caller c)) y)
+        (sym (refused-caller r (caller c) refl))
+        (seat-watched (length (h .updaters)) (leads-at (w .engine .set-up) (line-of beats c (refuse w r)) (caller c))
+        (h .present (caller c)) (f .seats (caller c))))
+        (λ k d. f .seats k);
     drains = λ k x. draining-on x refl (refused-work r (x .thread) (cases-eq (x .thread) (caller c)));
     past-points = f .past-points;
     past-spared = f .past-spared;

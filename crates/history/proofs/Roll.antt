@@ -14,7 +14,7 @@ use Rattle.history.proofs.Maps.{at-each}
 use Rattle.history.proofs.Phases.{idle-fits, idle-phase, thread-bounds}
 use Rattle.history.proofs.Plan.{Kept, Roll-keeps, then}
 use Rattle.history.proofs.Refusals.{refused-keeps}
-use Rattle.history.proofs.Seats.{seat-other, seat-watched}
+use Rattle.history.proofs.Seats.{seat-watched, seats-after}
 use Rattle.history.specs.Record.{History, Line, Transaction}
 use Rattle.history.specs.Runs.{line-of}
 use Rattle.history.specs.Serial.{put-in}
@@ -28,7 +28,7 @@ use Rattle.rules.specs.declared.answer.Answer.the-variants.{Done}
 use Rattle.rules.specs.declared.call.Call.the-variants.{Roll}
 use Rattle.rules.specs.declared.phase.Phase.{Phase}
 use Rattle.rules.specs.declared.phase.Phase.the-variants.{Idle}
-use Rattle.std.proofs.shelf.Tests.{and-parts, cases-bool, cases-eq, cases-order}
+use Rattle.std.proofs.shelf.Tests.{and-parts, cases-bool, cases-order}
 use Rattle.std.specs.declared.option.Option.the-variants.{None}
 
 -- where the threads up to a number are idle, each of them is
@@ -98,13 +98,12 @@ module _ (ws : List ℕ) (base : ℕ) (w : World) (h : History) (beats : Table) 
   }
 
   -- the roll does nothing to any transaction
-  rolled-seat : (n : ℕ) → (n ≡ 0) ⊎ (n ≡ 0 → ⊥) → Rolled-seat n (rolled-history .present n)
-  rolled-seat n (inl e) =
-      subst (λ (y : Transaction). Rolled-seat n y)
-      (sym (present-caller (w .engine .set-up) h rolled-line n e))
-      (seat-watched (length (h .updaters)) (leads-at (w .engine .set-up) rolled-line n) (h .present n) (rolled-idle-seat n))
-  rolled-seat n (inr d) =
-      seat-other h rolled-line d refl (rolled-idle-seat n)
+  rolled-seat : (n : ℕ) → Rolled-seat n (rolled-history .present n)
+  rolled-seat =
+      seats-after h rolled-line (λ k. thread-of (w .engine) k) (λ k. thread-of (w .engine) k) (λ k d. refl) (λ k. refl)
+      (subst (λ (y : Transaction). Rolled-seat 0 y) (sym (present-caller (w .engine .set-up) h rolled-line 0 refl))
+      (seat-watched (length (h .updaters)) (leads-at (w .engine .set-up) rolled-line 0) (h .present 0) (rolled-idle-seat 0)))
+      (λ k d. rolled-idle-seat k)
 
   -- nothing is left to drain, so the stored words are the serial run's
   rolled-word : (a : ℕ) → a < length (w .words) → Word-fits (w .engine .set-up) ws (h .updaters) (w .words) (front (rolled (w .engine))) a
@@ -130,7 +129,7 @@ module _ (ws : List ℕ) (base : ℕ) (w : World) (h : History) (beats : Table) 
           subst (λ (x : Front). Stripe-fits (w .engine .set-up) (h .updaters) (length (h .updaters)) 0 s x) (sym (rolled-fronts s))
           (bare-fits (w .engine .set-up) (h .updaters) s);
       words = rolled-word;
-      seats = λ n. rolled-seat n (cases-eq n 0);
+      seats = rolled-seat;
       spent = λ k l. rolled-spent k (f .spent k l);
       loads = f .loads;
       past-points = f .past-points;

@@ -153,6 +153,19 @@ module _ {u : SetUp} {ws : List ℕ} {us : List Work} {base : ℕ} {fs : ℕ →
       (sym (present-other u h l n d ∙ ap (fallen (length (h .updaters)) (watched (leads-at u l n) (h .present n))) e))
       (seat-watched (length (h .updaters)) (leads-at u l n) (h .present n) s)
 
+-- every thread's seat after a line, from the caller's and from those of the others before it, whose threads did not change
+pub seats-after : {u : SetUp} {ws : List ℕ} {us : List Work} {base : ℕ} {fs : ℕ → Front} {owner : ℕ → ℕ} (h : History) (l : Line)
+    (was is : ℕ → Thread) → ((k : ℕ) → (k ≡ caller (l .call) → ⊥) → is k ≡ was k) → ((k : ℕ) → l .losses k ≡ loss-in (is k .phase)) →
+    Seat u ws us base fs owner (caller (l .call)) (is (caller (l .call))) (after-line u h l .present (caller (l .call))) →
+    ((k : ℕ) → (k ≡ caller (l .call) → ⊥) → Seat u ws us base fs owner k (was k) (h .present k)) →
+    (k : ℕ) → Seat u ws us base fs owner k (is k) (after-line u h l .present k)
+seats-after {u} {ws} {us} {base} {fs} {owner} h l was is same losses own rest k = go (cases-eq k (caller (l .call)))
+  where
+    go : (k ≡ caller (l .call)) ⊎ (k ≡ caller (l .call) → ⊥) → Seat u ws us base fs owner k (is k) (after-line u h l .present k)
+    go (inl e) = subst (λ (j : ℕ). Seat u ws us base fs owner j (is j) (after-line u h l .present j)) (sym e) own
+    go (inr d) =
+        seat-other h l d (losses k) (subst (λ (t : Thread). Seat u ws us base fs owner k t (h .present k)) (sym (same k d)) (rest k d))
+
 -- a sealed thread that is left in its phase, and with its work, goes on draining its updater
 pub draining-on : {st st′ : State} {h g : History} {k : ℕ} (x : Draining st h k) →
     thread-of st′ (x .thread) ≡ thread-of st (x .thread) → g .present (x .thread) .work ≡ h .present (x .thread) .work →

@@ -15,7 +15,7 @@ use Rattle.history.proofs.Logs.{misses-unowned, unowned-unstored}
 use Rattle.history.proofs.Phases.{running-fits}
 use Rattle.history.proofs.Plan.{Kept, then}
 use Rattle.history.proofs.PutIn.{put-in-misses, put-in-same}
-use Rattle.history.proofs.Seats.{Apart, draining-on, seat-apart, seat-other}
+use Rattle.history.proofs.Seats.{Apart, draining-on, seat-apart, seats-after}
 use Rattle.history.proofs.SerialRuns.{push-grows, serial-pushed-word, serial-length}
 use Rattle.history.specs.Law.{updater, Loads-at, Spared}
 use Rattle.history.specs.Record.{History, Line, Transaction, Work, Fall, called-seal, with-work, watched, rewritten, no-work}
@@ -244,18 +244,6 @@ module _ (ws : List ℕ) (base : ℕ) (w : World) (h : History) (beats : Table) 
   sealed-present : next .present n ≡ with-work (watched (leads-at u line n) (h .present n)) (new-updater h n)
   sealed-present = present-unlost u h line refl (ap (λ (t : Thread). loss-in (t .phase)) own)
 
-  -- every thread's seat
-  sealed-seat : (k : ℕ) → (k ≡ n) ⊎ (k ≡ n → ⊥) → Seat u ws more base (front after) owners k (at ts k) (next .present k)
-  sealed-seat k (inl e) =
-      subst (λ (j : ℕ). Seat u ws more base (front after) owners j (at ts j) (next .present j)) (sym e)
-      (subst (λ (t : Thread). Seat u ws more base (front after) owners n t (next .present n)) (sym own)
-      (subst (λ (x : Transaction). Seat u ws more base (front after) owners n (ticketed (w .engine) n end) x) (sym sealed-present)
-      (sealed-own (leads-at u line n))))
-  sealed-seat k (inr d) =
-      seat-other h line d refl
-      (subst (λ (t : Thread). Seat u ws more base (front after) owners k t (h .present k)) (sym (apart k d))
-      (seat-apart grown (λ z live. others-apart k d) (f .seats k)))
-
   -- what was drained or is being drained, with the new updater
   sealed-spent : (k : ℕ) → k < length more → (k < length us) ⊎ (length us ≤ k) →
       Spent after next k
@@ -301,7 +289,12 @@ module _ (ws : List ℕ) (base : ℕ) (w : World) (h : History) (beats : Table) 
           count = omega (arith, longer, f .count);
           stripes = λ s. sealed-stripe s (cases-eq (owners s) n);
           words = λ a l. sealed-words a l (cases-eq (owners (stripe-of u a)) n);
-          seats = λ k. sealed-seat k (cases-eq k n);
+          seats =
+              seats-after h line (λ k. thread-of (w .engine) k) (λ k. at ts k) apart (λ k. refl)
+              (subst (λ (t : Thread). Seat u ws more base (front after) owners n t (next .present n)) (sym own)
+              (subst (λ (x : Transaction). Seat u ws more base (front after) owners n (ticketed (w .engine) n end) x)
+              (sym sealed-present) (sealed-own (leads-at u line n))))
+              (λ k d. seat-apart grown (λ z live. others-apart k d) (f .seats k));
           spent = λ k l. sealed-spent k l (cases-lt k (length us));
           loads = λ k l. sealed-loads k l (cases-lt k (length us));
           past-points = points-grow grown (h .past) (f .past-points);
