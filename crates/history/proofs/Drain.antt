@@ -9,7 +9,7 @@ use mathlib.Core.Path.{_≡_, refl, ap, sym, subst, _∙_}
 use native.Mathlib.Omega.{arith}
 use Rattle.common.specs.declared.refusal.Refusal.the-variants.{WrongState}
 use Rattle.history.proofs.DrainSteps.{Drain-step, drained-engine, drained-once, drained-outcome, step-keeps}
-use Rattle.history.proofs.Holders.{held-by, free-by-phase}
+use Rattle.history.proofs.Holders.{free-by-phase, held-by}
 use Rattle.history.proofs.Invariant.{Fits, Front, Phase-fits, Sealed-fits, front, hold-of, left-in, top, top-of}
 use Rattle.history.proofs.KeyedEntries.{has-dropped, never-has}
 use Rattle.history.proofs.Maps.{at-put-other, at-put-same}

@@ -8,7 +8,7 @@ use mathlib.Core.Path.{_≡_, refl, ap, sym, subst, _∙_}
 use native.Mathlib.Omega.{arith}
 use Rattle.common.specs.declared.loss.Loss.the-variants.{Stolen}
 use Rattle.contention.specs.Events.{Event}
-use Rattle.history.proofs.Holders.{free-not-draining, free-by-phase, free-unsealed}
+use Rattle.history.proofs.Holders.{free-by-phase, free-not-draining, free-unsealed}
 use Rattle.history.proofs.Invariant.{Draining, Fits, Phase-fits, Runs-on, Seated, front, hold-of}
 use Rattle.history.proofs.Leaders.{leader-beats}
 use Rattle.history.proofs.Lines.{leads-at, present-other, present-unlost, work-other}

@@ -1,14 +1,16 @@
 -- Which threads hold stripes, and what the front of a stripe shows of that.
-use Prim.Native.Nat.{ℕ}
+use Prim.Native.Nat.{ℕ, _<_}
 use lib.Dec.{eqb}
-use lib.ListN.{drop, length}
+use lib.ListN.{drop, getD, length}
 use mathlib.Core.Bool.{false, not}
 use mathlib.Core.List.{List}
 use mathlib.Core.Logic.{_⊎_, inl, inr}
 use mathlib.Core.Path.{_≡_, refl, ap, sym, _∙_}
 use native.Mathlib.Omega.{arith}
-use Rattle.history.proofs.Invariant.{Draining, Fits, Front, Stripe-fits, front, hold-in, hold-of}
+use Rattle.history.proofs.Invariant.{Draining, Fits, Front, Hold, Stripe-fits, front, hold-in, hold-of, left-of}
 use Rattle.history.specs.Record.{History, Work}
+use Rattle.history.specs.Serial.{put-in, serial-run}
+use Rattle.layout.specs.SetUps.{stripe-of}
 use Rattle.layout.specs.declared.entries.WriteEntry.{WriteEntry}
 use Rattle.layout.specs.declared.set_up.SetUp.{SetUp}
 use Rattle.rules.specs.Admission.{is-sealed}
@@ -18,6 +20,7 @@ use Rattle.rules.specs.States.{State, Stripe, Thread, World, stripe-at, thread-
 use Rattle.rules.specs.declared.phase.Phase.{Phase}
 use Rattle.rules.specs.declared.phase.Phase.the-variants.{Idle, Running, Sealed, Lost}
 use Rattle.std.proofs.shelf.Tests.{and-cases, and-right, eqb-true, not-false}
+use Rattle.std.specs.declared.option.Option.{Option}
 use Rattle.std.specs.declared.option.Option.the-variants.{Some, None}
 
 -- a stripe at version 0 that no sealed thread holds
@@ -91,6 +94,11 @@ pub free-not-busy : (st : State) (n s : ℕ) → front st s .hold ≡ None → b
 free-not-busy st n s e =
     and-right (is-other n (owner-of st s)) (is-sealed (thread-of st (owner-of st s) .phase))
     (free-unsealed (thread-of st (owner-of st s) .writes) (thread-of st (owner-of st s) .phase) e)
+
+-- the stored word of a stripe that shows no hold is the serial run's
+pub free-word-stored : {ws : List ℕ} {base : ℕ} {w : World} {h : History} → Fits ws base w h → (a : ℕ) → a < length (w .words) →
+    front (w .engine) (stripe-of (w .engine .set-up) a) .hold ≡ None → getD (serial-run ws (h .updaters)) a 0 ≡ getD (w .words) a 0
+free-word-stored {w = w} f a l free = f .words a l ∙ ap (λ (o : Option Hold). getD (put-in (w .words) (left-of o)) a 0) free
 
 -- a thread is sealed, or holds nothing
 pub sealed-or-free : (t : Thread) → ((k : ℕ) × (d : ℕ) × (t .phase ≡ Sealed k d)) ⊎ (hold-of t ≡ None)

@@ -8,14 +8,14 @@ use mathlib.Core.Logic.{_⊎_, inl, inr}
 use mathlib.Core.Path.{_≡_, refl, ap, sym, subst, _∙_}
 use native.Mathlib.Omega.{arith}
 use Rattle.common.specs.declared.loss.Loss.the-variants.{Invalid}
-use Rattle.history.proofs.Holders.{not-busy-free, free-not-busy}
-use Rattle.history.proofs.Invariant.{Fits, Hold, Marked, Overtaken, front, left-of, top, top-of}
+use Rattle.history.proofs.Holders.{free-not-busy, free-word-stored, not-busy-free}
+use Rattle.history.proofs.Invariant.{Fits, Marked, Overtaken, front, top, top-of}
 use Rattle.history.proofs.KeyedEntries.{all-both, entry-with-key}
 use Rattle.history.proofs.Phases.{running-fits}
 use Rattle.history.proofs.SerialRuns.{since-moment}
 use Rattle.history.specs.Law.{Excused, Loads-at, words-at}
 use Rattle.history.specs.Record.{History, Work}
-use Rattle.history.specs.Serial.{loaded-on, serial-run, put-in}
+use Rattle.history.specs.Serial.{loaded-on, serial-run}
 use Rattle.layout.specs.SetUps.{stripe-of}
 use Rattle.rules.specs.Conflicts.{busy, first-invalid, is-valid}
 use Rattle.rules.specs.States.{State, World, ReadMark, thread-of, stripe-at}
@@ -23,7 +23,6 @@ use Rattle.rules.specs.declared.phase.Phase.the-variants.{Running}
 use Rattle.std.proofs.shelf.Elements.{all-weaker}
 use Rattle.std.proofs.shelf.Lists.{take-all}
 use Rattle.std.proofs.shelf.Tests.{and-parts, eq-eqb, eqb-true, and-from, both-ways, not-true, not-from-false}
-use Rattle.std.specs.declared.option.Option.{Option}
 use Rattle.std.specs.declared.option.Option.the-variants.{Some, None}
 use Rattle.std.specs.shelf.Lists.{All}
 
@@ -37,19 +36,13 @@ module _ (ws : List ℕ) (base : ℕ) (w : World) (h : History) (f : Fits ws bas
       since-moment (w .engine .set-up) s a here ws (h .updaters) m
       (λ k from high. f .stripes s .untouched k (omega (arith, e, low, from)) high)
 
-  -- the stored word of such a stripe is the serial run's
-  word-stored : (a : ℕ) → a < length (w .words) → front (w .engine) (stripe-of (w .engine .set-up) a) .hold ≡ None →
-      getD (serial-run ws (h .updaters)) a 0 ≡ getD (w .words) a 0
-  word-stored a l free =
-      f .words a l ∙ ap (λ (x : Option Hold). getD (put-in (w .words) (left-of x)) a 0) free
-
 -- the stored word of such a stripe is what a transaction loads at a moment from its version on
 pub free-word-agrees : (ws : List ℕ) (base : ℕ) (w : World) (h : History) (a m : ℕ) → Fits ws base w h → a < length (w .words) →
     front (w .engine) (stripe-of (w .engine .set-up) a) .hold ≡ None →
     base + stripe-at (w .engine) (stripe-of (w .engine .set-up) a) .version ≤ m → m ≤ length (h .updaters) →
     getD (words-at ws (h .updaters) m) a 0 ≡ getD (w .words) a 0
 free-word-agrees ws base w h a m f l free low high =
-    sym (word-stays ws base w h f (stripe-of (w .engine .set-up) a) a m refl free low) ∙ word-stored ws base w h f a l free
+    sym (word-stays ws base w h f (stripe-of (w .engine .set-up) a) a m refl free low) ∙ free-word-stored f a l free
 
 -- a read log with no invalid entry has only valid ones
 valid-entries : (st : State) (n : ℕ) (es : List ReadMark) → first-invalid st n es ≡ None → All (λ e. is-valid st n e ≡ true) es

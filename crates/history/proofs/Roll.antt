@@ -1,14 +1,14 @@
 -- What a roll keeps.
 use Prim.Native.Nat.{ℕ, zero, suc, _<_, _≤_}
-use lib.ListN.{length, getD}
+use lib.ListN.{length}
 use mathlib.Core.Bool.{Bool, true, false}
 use mathlib.Core.List.{List, []}
 use mathlib.Core.Logic.{_⊎_, inl, inr}
 use mathlib.Core.Path.{_≡_, refl, ap, sym, subst, _∙_, fun-ext}
 use native.Mathlib.Omega.{arith}
 use Rattle.common.specs.declared.refusal.Refusal.the-variants.{RollNotDue, ThreadsActive}
-use Rattle.history.proofs.Holders.{bare-fits, bare-front, free-not-draining, free-by-phase}
-use Rattle.history.proofs.Invariant.{Fits, Front, Phase-fits, Seat, Spent, Stripe-fits, Word-fits, front, hold-of, left-of}
+use Rattle.history.proofs.Holders.{bare-fits, bare-front, free-by-phase, free-not-draining, free-word-stored}
+use Rattle.history.proofs.Invariant.{Fits, Front, Phase-fits, Seat, Spent, Stripe-fits, Word-fits, front, hold-of}
 use Rattle.history.proofs.Lines.{leads-at, present-caller}
 use Rattle.history.proofs.Maps.{at-each}
 use Rattle.history.proofs.Phases.{idle-fits, idle-phase, thread-bounds}
@@ -17,7 +17,6 @@ use Rattle.history.proofs.Refusals.{refused-keeps}
 use Rattle.history.proofs.Seats.{seat-watched, seats-after}
 use Rattle.history.specs.Record.{History, Line, Transaction}
 use Rattle.history.specs.Runs.{line-of}
-use Rattle.history.specs.Serial.{put-in}
 use Rattle.layout.specs.SetUps.{stripe-of}
 use Rattle.rules.specs.Admission.{is-idle, is-thread}
 use Rattle.rules.specs.Conflicts.{owner-of}
@@ -109,8 +108,7 @@ module _ (ws : List ℕ) (base : ℕ) (w : World) (h : History) (beats : Table) 
   rolled-word : (a : ℕ) → a < length (w .words) → Word-fits (w .engine .set-up) ws (h .updaters) (w .words) (front (rolled (w .engine))) a
   rolled-word a l =
       subst (λ (fs : ℕ → Front). Word-fits (w .engine .set-up) ws (h .updaters) (w .words) fs a) (sym (fun-ext rolled-fronts))
-      (f .words a l
-      ∙ ap (λ o. getD (put-in (w .words) (left-of o)) a 0) (all-free (owner-of (w .engine) (stripe-of (w .engine .set-up) a))))
+      (free-word-stored f a l (all-free (owner-of (w .engine) (stripe-of (w .engine .set-up) a))))
 
   -- no updater has words to drain
   rolled-spent : (k : ℕ) → Spent (w .engine) h k → Spent (rolled (w .engine)) rolled-history k

@@ -8,15 +8,15 @@ use mathlib.Core.Path.{_≡_, refl, ap, sym, subst, _∙_}
 use native.Mathlib.Omega.{arith}
 use Rattle.contention.specs.Events.{seal-of}
 use Rattle.history.proofs.Growth.{Grows, all-spared-grow, loads-grow, point-alike, point-grows, points-grow}
-use Rattle.history.proofs.Holders.{free-not-draining, free-by-phase}
-use Rattle.history.proofs.Invariant.{Fits, Front, Hold, Overtaken, Owns-log, Running-fits, Seat, Spent, Stripe-fits, Word-fits, front, hold-of, left-of, stores-in, top}
+use Rattle.history.proofs.Holders.{free-by-phase, free-not-draining, free-word-stored}
+use Rattle.history.proofs.Invariant.{Fits, Front, Overtaken, Owns-log, Running-fits, Seat, Spent, Stripe-fits, Word-fits, front, hold-of, left-of, stores-in, top}
 use Rattle.history.proofs.Lines.{leads-at, present-unlost, work-other}
 use Rattle.history.proofs.Logs.{misses-unowned, unowned-unstored}
 use Rattle.history.proofs.Phases.{running-fits}
 use Rattle.history.proofs.Plan.{Kept, then}
 use Rattle.history.proofs.PutIn.{put-in-misses, put-in-same}
 use Rattle.history.proofs.Seats.{Apart, draining-on, seat-apart, seats-after}
-use Rattle.history.proofs.SerialRuns.{push-grows, serial-pushed-word, serial-length}
+use Rattle.history.proofs.SerialRuns.{push-grows, serial-length, serial-pushed-word}
 use Rattle.history.specs.Law.{updater, Loads-at, Spared}
 use Rattle.history.specs.Record.{History, Line, Transaction, Work, Fall, called-seal, with-work, watched, rewritten, no-work}
 use Rattle.history.specs.Runs.{loss-in, line-of}
@@ -168,7 +168,7 @@ module _ (ws : List ℕ) (base : ℕ) (w : World) (h : History) (beats : Table) 
       let long : a < length (serial-run ws us) = omega (arith, serial-length ws us, f .sized) in
       serial-pushed-word ws us (new-updater h n) a long
       ∙ put-in-same (serial-run ws us) (w .words) (write-log (mine .calls)) a long l
-      (f .words a l ∙ ap (λ (o : Option Hold). getD (put-in (w .words) (left-of o)) a 0) (held-by-none s e))
+      (free-word-stored f a l (held-by-none s e))
       ∙ ap (λ (es : List WriteEntry). getD (put-in (w .words) es) a 0) (sym (run .log))
       ∙ ap (λ (x : Front). getD (put-in (w .words) (left-of (x .hold))) a 0) (sym (front-own s e))
   sealed-words a l (inr d) =
