@@ -15,7 +15,7 @@ use Rattle.history.proofs.Holders.{not-busy-free}
 use Rattle.history.proofs.Invariant.{Fits, Front, Mark-fits, Marked, Running-fits, Runs-on, Same-read, front, has-stripe}
 use Rattle.history.proofs.KeyedEntries.{found-has, grown-roomy, has-before, has-pushed}
 use Rattle.history.proofs.Logs.{log-finds-kept}
-use Rattle.history.proofs.Losses.{lost-keeps}
+use Rattle.history.proofs.Losses.{lose-keeps}
 use Rattle.history.proofs.Maps.{at-put-other, at-put-same}
 use Rattle.history.proofs.Phases.{Admitted, running-fits, running-phase}
 use Rattle.history.proofs.Plan.{Kept, Load-keeps}
@@ -35,11 +35,11 @@ use Rattle.rules.specs.Conflicts.{busy, first-invalid, owner-of, recheck, reche
 use Rattle.rules.specs.Load.{grown, has-read, is-full, load-admitted, load-free, load-fresh, load-logged, load-placed, load-roomy, load-won, written}
 use Rattle.rules.specs.Maps.{Map, at, put}
 use Rattle.rules.specs.Outcomes.{Table, goes}
-use Rattle.rules.specs.States.{ReadMark, Thread, World, stripe-at, thread-of, with-phase, with-reads, with-snapshot}
+use Rattle.rules.specs.States.{ReadMark, Thread, World, stripe-at, thread-of, with-reads, with-snapshot}
 use Rattle.rules.specs.declared.answer.Answer.the-variants.{Word}
 use Rattle.rules.specs.declared.call.Call.the-variants.{Load}
 use Rattle.rules.specs.declared.kind.Kind.the-variants.{Load as Loading}
-use Rattle.rules.specs.declared.phase.Phase.the-variants.{Running, Lost}
+use Rattle.rules.specs.declared.phase.Phase.the-variants.{Running}
 use Rattle.std.proofs.shelf.Elements.{all-push, all-weaker}
 use Rattle.std.proofs.shelf.Tests.{ltb-false, ltb-true}
 use Rattle.std.specs.declared.option.Option.{Option}
@@ -256,13 +256,8 @@ module _ (ws : List ℕ) (base : ℕ) (w : World) (h : History) (beats : Table) 
       invalid-keeps : (x : ℕ) → first-invalid (w .engine) n (thread-of (w .engine) n .reads) ≡ Some x →
           Kept ws base w h beats (Load n a) (load-fresh beats w n a loaded-stripe known (rechecked (w .engine) n (Some x)))
       invalid-keeps x bad =
-          lost-keeps ws base w h beats (Load n a) (Invalid x) (w .engine .mark) (put (w .engine .threads) n overtaken) f run
-          (ap (λ (t : Thread). t .phase) (at-put-same (w .engine .threads) n overtaken))
-          (λ k d. at-put-other (w .engine .threads) n k overtaken d)
+          lose-keeps ws base w h beats (Load n a) (Invalid x) (w .engine .mark) (w .engine .threads) f run (λ k d. refl)
           (λ led. invalid-excuses ws base w h n x f run bad)
-        where
-          overtaken : Thread
-          overtaken = with-phase (thread-of (w .engine) n) (Lost (Invalid x))
 
       -- whichever it is
       refresh-keeps : Kept ws base w h beats (Load n a) (load-fresh beats w n a loaded-stripe known (refresh (w .engine) n loaded-stripe))

@@ -3,11 +3,12 @@ use Prim.Native.Nat.{ℕ}
 use lib.ListN.{length}
 use mathlib.Core.Bool.{Bool, true, _&&_}
 use mathlib.Core.List.{List, []}
-use mathlib.Core.Path.{_≡_, refl, sym, subst}
+use mathlib.Core.Path.{_≡_, refl, ap, sym, subst, _∙_}
 use Rattle.common.specs.declared.loss.Loss.{Loss}
 use Rattle.history.proofs.Alone.{alone-keeps}
 use Rattle.history.proofs.Holders.{free-by-phase}
 use Rattle.history.proofs.Invariant.{Fits, Front, Phase-fits, Seat}
+use Rattle.history.proofs.Maps.{at-put-other, at-put-same}
 use Rattle.history.proofs.Phases.{running-fits, running-inside}
 use Rattle.history.proofs.Plan.{Kept}
 use Rattle.history.proofs.Quiet.{quiet-state}
@@ -15,9 +16,9 @@ use Rattle.history.specs.Law.{Excused}
 use Rattle.history.specs.Record.{History, Transaction, Work, Fall, caller, fallen, first-fall, watched, leads}
 use Rattle.layout.specs.declared.set_up.SetUp.{SetUp}
 use Rattle.rules.specs.Admission.{is-thread}
-use Rattle.rules.specs.Maps.{Map, at}
+use Rattle.rules.specs.Maps.{Map, at, put}
 use Rattle.rules.specs.Outcomes.{Table, lost}
-use Rattle.rules.specs.States.{Thread, World, thread-of}
+use Rattle.rules.specs.States.{Thread, World, thread-of, with-phase}
 use Rattle.rules.specs.declared.answer.Answer.the-variants.{Lost as AnsweredLost}
 use Rattle.rules.specs.declared.call.Call.{Call}
 use Rattle.rules.specs.declared.phase.Phase.{Phase}
@@ -48,7 +49,7 @@ seat-lost {u} {ws} {us} {base} {fs} {owner} {owner′} {n} {t} {t′} x l m b s 
     })
 
 -- a losing call: only the caller's thread changed, its fall is on record, and a leader is excused
-pub lost-keeps : (ws : List ℕ) (base : ℕ) (w : World) (h : History) (beats : Table) (c : Call) (l : Loss) (m : Bool) (ts : Map Thread) →
+lost-keeps : (ws : List ℕ) (base : ℕ) (w : World) (h : History) (beats : Table) (c : Call) (l : Loss) (m : Bool) (ts : Map Thread) →
     Fits ws base w h →
     thread-of (w .engine) (caller c) .phase ≡ Running →
     at ts (caller c) .phase ≡ Lost l →
@@ -63,3 +64,17 @@ lost-keeps ws base w h beats c l m ts f was is others excused =
     (seat-lost (h .present (caller c)) l (length (h .updaters)) (leads beats (caller c) (w .engine .set-up .threads))
     (f .seats (caller c)) was is excused)
     (f .past-points) (f .past-spared)
+
+-- so a call that puts its thread among the lost keeps the invariant
+pub lose-keeps : (ws : List ℕ) (base : ℕ) (w : World) (h : History) (beats : Table) (c : Call) (l : Loss) (m : Bool) (ts : Map Thread) →
+    Fits ws base w h →
+    thread-of (w .engine) (caller c) .phase ≡ Running →
+    ((k : ℕ) → (k ≡ caller c → ⊥) → at ts k ≡ thread-of (w .engine) k) →
+    (leads beats (caller c) (w .engine .set-up .threads) ≡ true →
+    Excused (w .engine .set-up) (h .updaters) (h .present (caller c) .work) (length (h .updaters)) l) →
+    Kept ws base w h beats c
+    (lost w l (quiet-state (w .engine) m (w .engine .stripes) (put ts (caller c) (with-phase (at ts (caller c)) (Lost l)))))
+lose-keeps ws base w h beats c l m ts f was others excused =
+    let t = with-phase (at ts (caller c)) (Lost l) in
+    lost-keeps ws base w h beats c l m (put ts (caller c) t) f was (ap (λ (x : Thread). x .phase) (at-put-same ts (caller c) t))
+    (λ k d. at-put-other ts (caller c) k t d ∙ others k d) excused

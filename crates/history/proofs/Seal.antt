@@ -14,7 +14,7 @@ use Rattle.history.proofs.Growth.{point-alike}
 use Rattle.history.proofs.Holders.{free-by-phase}
 use Rattle.history.proofs.Invariant.{Fits, Seated, hold-of}
 use Rattle.history.proofs.Logs.{stored-logged}
-use Rattle.history.proofs.Losses.{lost-keeps}
+use Rattle.history.proofs.Losses.{lose-keeps}
 use Rattle.history.proofs.Maps.{at-put-other, at-put-same}
 use Rattle.history.proofs.Phases.{running-fits, running-phase}
 use Rattle.history.proofs.Plan.{Kept, Seal-keeps}
@@ -111,10 +111,7 @@ module _ (ws : List ℕ) (base : ℕ) (w : World) (h : History) (beats : Table) 
       (lost w l (quiet-state (w .engine) m (w .engine .stripes)
       (put (w .engine .threads) n (with-phase (thread-of (w .engine) n) (Lost l)))))
   loses-keeps l m x =
-      let t = with-phase (thread-of (w .engine) n) (Lost l) in
-      lost-keeps ws base w h beats (Seal n) l m (put (w .engine .threads) n t) f running
-      (ap (λ (y : Thread). y .phase) (at-put-same (w .engine .threads) n t))
-      (λ k d. at-put-other (w .engine .threads) n k t d) (λ leader. x)
+      lose-keeps ws base w h beats (Seal n) l m (w .engine .threads) f running (λ k d. refl) (λ led. x)
 
   -- the read log has an invalid entry or not
   rechecked-keeps : (o : Option ℕ) → first-invalid (w .engine) n (thread-of (w .engine) n .reads) ≡ o →

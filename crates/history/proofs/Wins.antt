@@ -13,7 +13,7 @@ use Rattle.history.proofs.GoingOn.{Left-or-beaten}
 use Rattle.history.proofs.Holders.{not-other}
 use Rattle.history.proofs.Invariant.{Fits}
 use Rattle.history.proofs.Leaders.{leader-beats}
-use Rattle.history.proofs.Losses.{lost-keeps}
+use Rattle.history.proofs.Losses.{lose-keeps}
 use Rattle.history.proofs.Maps.{at-put-other, at-put-same}
 use Rattle.history.proofs.Phases.{running-inside, running-phase, thread-not-zero}
 use Rattle.history.proofs.Plan.{Kept}
@@ -157,9 +157,7 @@ module _ (ws : List ℕ) (base : ℕ) (w : World) (h : History) (beats : Table) 
   lost-to : (k : ℕ) → Rivals (threaded (w .engine) ts) (caller c) s k → beats (caller c) k ≡ false →
       Kept ws base w h beats c (lost w (Beaten k) (lose (threaded (w .engine) ts) (caller c) (Beaten k)))
   lost-to k x beaten =
-      let t = with-phase (at ts (caller c)) (Lost (Beaten k)) in
-      lost-keeps ws base w h beats c (Beaten k) (w .engine .mark) (put ts (caller c) t) f run
-      (ap (λ (x : Thread). x .phase) (at-put-same ts (caller c) t)) (λ j d. at-put-other ts (caller c) j t d ∙ r .others j d)
+      lose-keeps ws base w h beats c (Beaten k) (w .engine .mark) ts f run (r .others)
       (λ led. absurd (leader-wins k x beaten led))
 
   -- however the meeting ends, the whole call keeps everything
