@@ -142,7 +142,7 @@ module _ (ws : List ℕ) (base : ℕ) (w : World) (h : History) (beats : Table) 
         ap (word-or (getD (words-at ws (h .updaters) (base + end)) a 0)) (finds-kept None logless)
         ∙ free-word-agrees ws base w h a (base + end) f inside
         (ap (λ (x : ℕ). front (w .engine) x .hold) here ∙ free)
-        (omega (arith, fresh, ap (λ (x : ℕ). stripe-at (w .engine) x .version) here)) so-far
+        (omega (arith, fresh, ap (λ (x : ℕ). stripe-at (w .engine) x .version) here))
 
     -- the marks stay, at a later snapshot end
     marks-later : All (Marked w h n end) (thread-of (w .engine) n .reads)

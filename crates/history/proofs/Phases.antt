@@ -30,11 +30,12 @@ pub record Admitted (st : State) (k : Kind) (n : ℕ) : Type 0 where
 never-ok : (r : Refusal) (x : Unit {0}) → _≡_ {A = Result (Unit {0}) Refusal} (Err r) (Ok x) → ⊥
 never-ok r x e = let z : _≡_ {A = ℕ} 0 1 = cc in omega arith
 
+-- nor is either refusal of a call that its state does not let in
 refused-never-ok : (b : Bool) (x : Unit {0}) → cond b (Err AlreadyLost) (Err WrongState) ≡ Ok x → ⊥
 refused-never-ok true x e = never-ok AlreadyLost x e
 refused-never-ok false x e = never-ok WrongState x e
 
--- what was admitted has this
+-- a call that the engine admits is such a call
 pub admitted-parts : (st : State) (k : Kind) (n : ℕ) (x : Unit {0}) → admitted st k n ≡ Ok x → Admitted st k n
 admitted-parts st k n x e = go (is-thread (st .set-up) n) (is-for k (thread-of st n .phase)) refl refl e
   where

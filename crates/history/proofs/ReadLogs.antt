@@ -39,9 +39,9 @@ module _ (ws : List ℕ) (base : ℕ) (w : World) (h : History) (f : Fits ws bas
 -- the stored word of such a stripe is what a transaction loads at a moment from its version on
 pub free-word-agrees : (ws : List ℕ) (base : ℕ) (w : World) (h : History) (a m : ℕ) → Fits ws base w h → a < length (w .words) →
     front (w .engine) (stripe-of (w .engine .set-up) a) .hold ≡ None →
-    base + stripe-at (w .engine) (stripe-of (w .engine .set-up) a) .version ≤ m → m ≤ length (h .updaters) →
+    base + stripe-at (w .engine) (stripe-of (w .engine .set-up) a) .version ≤ m →
     getD (words-at ws (h .updaters) m) a 0 ≡ getD (w .words) a 0
-free-word-agrees ws base w h a m f l free low high =
+free-word-agrees ws base w h a m f l free low =
     sym (word-stays ws base w h f (stripe-of (w .engine .set-up) a) a m refl free low) ∙ free-word-stored f a l free
 
 -- a read log with no invalid entry has only valid ones
