@@ -5,16 +5,15 @@ use mathlib.Core.Bool.{Bool}
 use mathlib.Core.List.{List}
 use mathlib.Core.Logic.{_⊎_, inl, inr}
 use mathlib.Core.Path.{_≡_, refl, ap, sym, subst, _∙_}
-use native.Mathlib.Omega.{arith}
 use Rattle.contention.specs.Events.{Event}
-use Rattle.history.proofs.Fronts.{fronts-kept}
-use Rattle.history.proofs.Invariant.{Fits, Seat, Draining, front, hold-in, hold-of}
-use Rattle.history.proofs.Lines.{present-caller}
+use Rattle.history.proofs.Holders.{free-not-draining, fronts-kept}
+use Rattle.history.proofs.Invariant.{Draining, Fits, Seated, front, hold-of}
+use Rattle.history.proofs.Lines.{present-caller, work-other}
 use Rattle.history.proofs.Plan.{Kept, then}
 use Rattle.history.proofs.Quiet.{quiet-keeps, quiet-outcome, quiet-state}
-use Rattle.history.proofs.Seats.{seat-other, number-other}
+use Rattle.history.proofs.Seats.{draining-on, seats-after}
 use Rattle.history.specs.Law.{Point, Spared}
-use Rattle.history.specs.Record.{History, Line, Transaction, Work, acted, caller, deed, fallen, leads, or-else, told-loss, watched}
+use Rattle.history.specs.Record.{History, Line, Transaction, acted, caller, deed, fallen, leads, or-else, told-loss, watched}
 use Rattle.history.specs.Runs.{line-of, loss-in}
 use Rattle.rules.specs.Conflicts.{owner-of}
 use Rattle.rules.specs.Maps.{Map, at}
@@ -22,16 +21,9 @@ use Rattle.rules.specs.Outcomes.{Table}
 use Rattle.rules.specs.States.{State, World, Stripe, Thread, thread-of}
 use Rattle.rules.specs.declared.answer.Answer.{Answer}
 use Rattle.rules.specs.declared.call.Call.{Call}
-use Rattle.rules.specs.declared.phase.Phase.the-variants.{Sealed}
 use Rattle.std.proofs.shelf.Tests.{cases-eq}
 use Rattle.std.specs.declared.option.Option.the-variants.{None}
 use Rattle.std.specs.shelf.Lists.{All}
-
--- a thread that holds nothing is not sealed
-pub free-not-sealed : (t : Thread) (k d : ℕ) → hold-of t ≡ None → t .phase ≡ Sealed k d → ⊥
-free-not-sealed t k d e s =
-    let x : hold-in (t .writes) (Sealed k d) ≡ None = ap (hold-in (t .writes)) (sym s) ∙ e in
-    let z : _≡_ {A = ℕ} 0 1 = cc in omega arith
 
 module _ (ws : List ℕ) (base : ℕ) (w : World) (h : History) (beats : Table) (c : Call) (a : Answer) (es : List Event)
     (m : Bool) (ss : Map Stripe) (ts : Map Thread) (f : Fits ws base w h)
@@ -46,10 +38,6 @@ module _ (ws : List ℕ) (base : ℕ) (w : World) (h : History) (beats : Table) 
 
   abbrev alone-history : History
   alone-history = then w h beats c (quiet-outcome w a es alone-state)
-
-  -- the seat of a thread after the call, with this transaction
-  abbrev Seated : ℕ → Transaction → Type 0
-  Seated n x = Seat (w .engine .set-up) ws (h .updaters) base (front (w .engine)) (owner-of alone-state) n (at ts n) x
 
   -- the caller's transaction after the call
   abbrev pub caller-after : Transaction
@@ -66,48 +54,35 @@ module _ (ws : List ℕ) (base : ℕ) (w : World) (h : History) (beats : Table) 
       go (inl p) = subst (λ (k : ℕ). hold-of (at ts k) ≡ hold-of (thread-of (w .engine) k)) (sym p) (e ∙ sym free)
       go (inr d) = ap hold-of (others n d)
 
-  -- each seat after the call, from the caller's and from those of the others as they were before it
-  alone-seat : Seated (caller c) caller-after →
-      ((n : ℕ) → (n ≡ caller c → ⊥) → Seat (w .engine .set-up) ws (h .updaters) base (front (w .engine)) (owner-of alone-state) n (thread-of (w .engine) n) (h .present n)) →
-      (n : ℕ) → (n ≡ caller c) ⊎ (n ≡ caller c → ⊥) → Seated n (alone-history .present n)
-  alone-seat own rest n (inl e) =
-      subst (λ (k : ℕ). Seated k (alone-history .present k)) (sym e)
-      (subst (λ (y : Transaction). Seated (caller c) y) (sym (present-caller (w .engine .set-up) h alone-line (caller c) refl)) own)
-  alone-seat own rest n (inr d) =
-      seat-other (w .engine .set-up) ws base (front (w .engine)) (owner-of alone-state) h alone-line n (at ts n) d refl (h .updaters)
-      (subst (λ (t : Thread). Seat (w .engine .set-up) ws (h .updaters) base (front (w .engine)) (owner-of alone-state) n t (h .present n))
-      (sym (others n d)) (rest n d))
-
   -- a sealed thread is not the caller, so it drains as before
   alone-drains : (k : ℕ) → Draining (w .engine) h k → Draining alone-state alone-history k
-  alone-drains k x = record {
-    thread = x .thread;
-    ticket = x .ticket;
-    drained = x .drained;
-    sealed = ap (λ (t : Thread). t .phase) (others (x .thread) apart) ∙ x .sealed;
-    numbered = ap (λ (y : Work). y .number) (number-other (w .engine .set-up) h alone-line (x .thread) apart) ∙ x .numbered;
-  }
+  alone-drains k x = draining-on x (others (x .thread) apart) (work-other (w .engine .set-up) h alone-line (x .thread) apart)
     where
       apart : x .thread ≡ caller c → ⊥
-      apart e =
-          free-not-sealed (thread-of (w .engine) (x .thread)) (x .ticket) (x .drained)
-          (subst (λ (n : ℕ). hold-of (thread-of (w .engine) n) ≡ None) (sym e) free) (x .sealed)
+      apart e = free-not-draining x free e
 
   -- such a call keeps the invariant, once its caller's seat is known, and those of the others with the new owners
   pub alone-keeps-owners : ((s : ℕ) → front alone-state s ≡ front (w .engine) s) → alone-history .updaters ≡ h .updaters →
-      Seated (caller c) caller-after →
-      ((n : ℕ) → (n ≡ caller c → ⊥) → Seat (w .engine .set-up) ws (h .updaters) base (front (w .engine)) (owner-of alone-state) n (thread-of (w .engine) n) (h .present n)) →
+      Seated ws base w h (owner-of alone-state) (caller c) (at ts (caller c)) caller-after →
+      ((n : ℕ) → (n ≡ caller c → ⊥) → Seated ws base w h (owner-of alone-state) n (thread-of (w .engine) n) (h .present n)) →
       All (λ t. Point ws (h .updaters) (t .work)) (alone-history .past) →
       All (λ t. Spared (w .engine .set-up) (h .updaters) (t .work) (t .fall)) (alone-history .past) →
       Kept ws base w h beats c (quiet-outcome w a es alone-state)
   alone-keeps-owners fronts updaters own rest points spared = quiet-keeps ws base w h beats c a es m ss ts f (record {
     fronts = fronts;
     updaters = updaters;
-    seats = λ n. alone-seat own rest n (cases-eq n (caller c));
+    seats =
+        seats-after h alone-line (λ k. thread-of (w .engine) k) (λ k. at ts k) others (λ k. refl)
+        (subst (λ (y : Transaction). Seated ws base w h (owner-of alone-state) (caller c) (at ts (caller c)) y)
+        (sym (present-caller (w .engine .set-up) h alone-line (caller c) refl)) own) rest;
     drains = alone-drains;
     past-points = points;
     past-spared = spared;
   })
+
+-- the history that such a call leaves if it leaves the stripes too
+abbrev pub alone-left : World → History → Table → Call → Answer → List Event → Bool → Map Thread → History
+alone-left w h beats c a es m ts = then w h beats c (quiet-outcome w a es (quiet-state (w .engine) m (w .engine .stripes) ts))
 
 -- such a call that leaves the stripes too keeps the invariant, once its caller's seat is known
 pub alone-keeps : (ws : List ℕ) (base : ℕ) (w : World) (h : History) (beats : Table) (c : Call) (a : Answer) (es : List Event)
@@ -115,11 +90,11 @@ pub alone-keeps : (ws : List ℕ) (base : ℕ) (w : World) (h : History) (beats 
     (others : (k : ℕ) → (k ≡ caller c → ⊥) → at ts k ≡ thread-of (w .engine) k)
     (free : hold-of (thread-of (w .engine) (caller c)) ≡ None) →
     hold-of (at ts (caller c)) ≡ None →
-    then w h beats c (quiet-outcome w a es (quiet-state (w .engine) m (w .engine .stripes) ts)) .updaters ≡ h .updaters →
-    Seat (w .engine .set-up) ws (h .updaters) base (front (w .engine)) (owner-of (w .engine)) (caller c) (at ts (caller c))
+    alone-left w h beats c a es m ts .updaters ≡ h .updaters →
+    Seated ws base w h (owner-of (w .engine)) (caller c) (at ts (caller c))
     (caller-after ws base w h beats c a es m (w .engine .stripes) ts f others free) →
-    All (λ t. Point ws (h .updaters) (t .work)) (then w h beats c (quiet-outcome w a es (quiet-state (w .engine) m (w .engine .stripes) ts)) .past) →
-    All (λ t. Spared (w .engine .set-up) (h .updaters) (t .work) (t .fall)) (then w h beats c (quiet-outcome w a es (quiet-state (w .engine) m (w .engine .stripes) ts)) .past) →
+    All (λ t. Point ws (h .updaters) (t .work)) (alone-left w h beats c a es m ts .past) →
+    All (λ t. Spared (w .engine .set-up) (h .updaters) (t .work) (t .fall)) (alone-left w h beats c a es m ts .past) →
     Kept ws base w h beats c (quiet-outcome w a es (quiet-state (w .engine) m (w .engine .stripes) ts))
 alone-keeps ws base w h beats c a es m ts f others free held updaters own points spared =
     alone-keeps-owners ws base w h beats c a es m (w .engine .stripes) ts f others free

@@ -8,23 +8,22 @@ use mathlib.Core.Path.{_≡_, refl, ap, sym, subst, _∙_}
 use native.Mathlib.Omega.{arith}
 use Rattle.common.specs.declared.loss.Loss.{Loss}
 use Rattle.common.specs.declared.loss.Loss.the-variants.{Beaten, Invalid, ClockSpent, Stolen}
-use Rattle.common.specs.declared.refusal.Refusal.{Refusal}
-use Rattle.history.proofs.Alone.{alone-keeps-owners, alone-holds}
-use Rattle.history.proofs.Fronts.{hold-none}
-use Rattle.history.proofs.Growth.{grows-none}
-use Rattle.history.proofs.Invariant.{Fits, Lost-fits, Phase-fits, Seat, front, hold-of}
+use Rattle.history.proofs.Alone.{alone-holds, alone-keeps-owners}
+use Rattle.history.proofs.Growth.{point-alike}
+use Rattle.history.proofs.Holders.{free-by-phase}
+use Rattle.history.proofs.Invariant.{Fits, Seated, front, hold-of}
 use Rattle.history.proofs.Lines.{fallen-before}
-use Rattle.history.proofs.Maps.{at-put-same, at-put-other}
-use Rattle.history.proofs.Phases.{admitted-parts, fits-lost, fits-running}
+use Rattle.history.proofs.Maps.{at-put-other, at-put-same}
+use Rattle.history.proofs.Phases.{lost-fits, running-fits}
 use Rattle.history.proofs.Plan.{Back-keeps, Kept}
-use Rattle.history.proofs.Refusals.{refused-keeps}
-use Rattle.history.proofs.Releases.{released-own, released-other, released-keeps, released-gains, released-nothing}
-use Rattle.history.proofs.Seats.{Apart, seat-apart}
-use Rattle.history.specs.Law.{Excused, Point, Spared}
+use Rattle.history.proofs.Refusals.{admitted-or-refused}
+use Rattle.history.proofs.Releases.{released-gains, released-keeps, released-nothing, released-other, released-own}
+use Rattle.history.proofs.Seats.{seat-owners}
+use Rattle.history.specs.Law.{Excused, Spared}
 use Rattle.history.specs.Record.{History, Transaction, Work, Fall, called, ended-loss, fallen, leads, or-else, rewritten, watched, with-work}
 use Rattle.history.specs.Runs.{loss-in}
 use Rattle.layout.specs.declared.set_up.SetUp.{SetUp}
-use Rattle.rules.specs.Admission.{admitted, is-for}
+use Rattle.rules.specs.Admission.{is-for}
 use Rattle.rules.specs.Back.{back-admitted, ending-of}
 use Rattle.rules.specs.Conflicts.{owner-of}
 use Rattle.rules.specs.Drain.{freed, release}
@@ -40,11 +39,10 @@ use Rattle.rules.specs.declared.phase.Phase.the-variants.{Idle, Running, Sealed
 use Rattle.std.proofs.shelf.Tests.{cases-eq}
 use Rattle.std.specs.declared.option.Option.{Option}
 use Rattle.std.specs.declared.option.Option.the-variants.{Some, None}
-use Rattle.std.specs.declared.result.Result.{Result}
-use Rattle.std.specs.declared.result.Result.the-variants.{Ok, Err}
+use Rattle.std.specs.declared.result.Result.the-variants.{Ok}
 
 -- one more call changes nothing of what excuses a loss
-pub spared-called : (u : SetUp) (us : List Work) (c : Call) (w : Work) (f : Option Fall) → Spared u us w f → Spared u us (called c w) f
+spared-called : (u : SetUp) (us : List Work) (c : Call) (w : Work) (f : Option Fall) → Spared u us w f → Spared u us (called c w) f
 spared-called u us c w None x = x
 spared-called u us c w (Some f) x = λ e. go (f .cause) (x e)
   where
@@ -53,16 +51,6 @@ spared-called u us c w (Some f) x = λ e. go (f .cause) (x e)
     go (Invalid s) y = y
     go ClockSpent y = y
     go (Stolen k) y = y
-
--- a back is no load, so the transaction has its point still
-pub point-back : (ws : List ℕ) (us : List Work) (n : ℕ) (w : Work) → Point ws us w → Point ws us (called (Back n) w)
-point-back ws us n w p = record {
-  moment = p .moment;
-  since-begin = p .since-begin;
-  by-last-load = p .by-last-load;
-  so-far = p .so-far;
-  loads = p .loads;
-}
 
 -- a state that a back is for is running or lost
 back-phase : (p : Phase) → is-for Backing p ≡ true → (p ≡ Running) ⊎ ((l : Loss) × (p ≡ Lost l))
@@ -83,25 +71,19 @@ module _ (ws : List ℕ) (base : ℕ) (w : World) (h : History) (n : ℕ) (f : F
   leaves : (thread-of (w .engine) n .phase ≡ Running) ⊎ ((l : Loss) × (thread-of (w .engine) n .phase ≡ Lost l)) →
       Leaves (h .present n .work) (h .present n .fall) (thread-of (w .engine) n)
   leaves (inl e) = record {
-    unnumbered =
-        fits-running (w .engine .set-up) ws (h .updaters) base (front (w .engine)) (owner-of (w .engine)) n (thread-of (w .engine) n)
-        (h .present n .work) (h .present n .fall) (thread-of (w .engine) n .phase) e (f .seats n .phase) .unnumbered;
-    free = hold-none (thread-of (w .engine) n) Running e refl;
+    unnumbered = running-fits (f .seats n) e .unnumbered;
+    free = free-by-phase (thread-of (w .engine) n) Running e refl;
     told = λ m x p. ap (λ (q : Phase). fallen m x (or-else (ended-loss (ending-of q)) None)) e;
   }
   leaves (inr x) =
+      let fits = lost-fits (f .seats n) (x .0) (x .1) in
       record {
         unnumbered = fits .unnumbered;
-        free = hold-none (thread-of (w .engine) n) (Lost (x .0)) (x .1) refl;
+        free = free-by-phase (thread-of (w .engine) n) (Lost (x .0)) (x .1) refl;
         told = λ m y p.
             ap (λ (q : Phase). fallen m y (or-else (ended-loss (ending-of q)) None)) (x .1)
             ∙ fallen-before m y (Some (x .0)) (fits .fall) (p ∙ fits .fallen);
       }
-    where
-      fits : Lost-fits (h .present n .work) (h .present n .fall)
-      fits =
-          fits-lost (w .engine .set-up) ws (h .updaters) base (front (w .engine)) (owner-of (w .engine)) n (thread-of (w .engine) n)
-          (h .present n .work) (h .present n .fall) (thread-of (w .engine) n .phase) (x .0) (x .1) (f .seats n .phase)
 
 module _ (ws : List ℕ) (base : ℕ) (w : World) (h : History) (beats : Table) (n : ℕ) (f : Fits ws base w h)
     (x : Leaves (h .present n .work) (h .present n .fall) (thread-of (w .engine) n)) where
@@ -114,7 +96,7 @@ module _ (ws : List ℕ) (base : ℕ) (w : World) (h : History) (beats : Table) 
 
   -- a thread's seat when the stripes are let go
   abbrev Back-seat : ℕ → Thread → Transaction → Type 0
-  Back-seat k t y = Seat (w .engine .set-up) ws (h .updaters) base (front (w .engine)) (owner-of back-state) k t y
+  Back-seat k t y = Seated ws base w h (owner-of back-state) k t y
 
   -- no other thread changed, and the caller is idle
   back-others : (k : ℕ) → (k ≡ n → ⊥) → at back-threads k ≡ thread-of (w .engine) k
@@ -138,7 +120,8 @@ module _ (ws : List ℕ) (base : ℕ) (w : World) (h : History) (beats : Table) 
   back-front s = go (cases-eq (owner-of (w .engine) s) n)
     where
       show : (version : ℕ) (owner : ℕ) → stripe-at back-state s ≡ record { version = version; owner = owner } →
-          version ≡ stripe-at (w .engine) s .version → hold-of (thread-of (w .engine) owner) ≡ hold-of (thread-of (w .engine) (owner-of (w .engine) s)) →
+          version ≡ stripe-at (w .engine) s .version →
+          hold-of (thread-of (w .engine) owner) ≡ hold-of (thread-of (w .engine) (owner-of (w .engine) s)) →
           front back-state s ≡ front (w .engine) s
       show version owner e p q = λ i. record {
         version = (ap (λ (y : Stripe). y .version) e ∙ p) i;
@@ -148,43 +131,15 @@ module _ (ws : List ℕ) (base : ℕ) (w : World) (h : History) (beats : Table) 
       go : (owner-of (w .engine) s ≡ n) ⊎ (owner-of (w .engine) s ≡ n → ⊥) → front back-state s ≡ front (w .engine) s
       go (inl e) =
           show (stripe-at (w .engine) s .version) 0 (released-own (w .engine) n None s e) refl
-          (hold-none (thread-of (w .engine) 0) Idle no-owner-idle refl
+          (free-by-phase (thread-of (w .engine) 0) Idle no-owner-idle refl
           ∙ sym (ap (λ (k : ℕ). hold-of (thread-of (w .engine) k)) e ∙ x .free))
       go (inr d) =
           show (stripe-at (w .engine) s .version) (owner-of (w .engine) s) (released-other (w .engine) n None s d) refl refl
 
-  -- another thread owns what it owned; the thread of no owner has nothing to say
-  back-rest : (k : ℕ) → (k ≡ n → ⊥) →
-      Back-seat k (thread-of (w .engine) k) (h .present k)
-  back-rest k d = go (cases-eq k 0)
-    where
-      apart : (k ≡ 0 → ⊥) → Apart (w .engine .set-up) ws (h .updaters) (h .updaters) (front (w .engine)) (front (w .engine)) (owner-of (w .engine)) (owner-of back-state) k
-      apart z = record {
-        grows = grows-none ws (h .updaters);
-        newer = λ j low high e. omega arith;
-        same = λ j l e. refl;
-        gains = λ s e. released-gains (w .engine) n None s k z e;
-        keeps = λ s e. released-keeps (w .engine) n None s k d e;
-        fronts = λ s e. inl refl;
-      }
-
-      idle : k ≡ 0 → thread-of (w .engine) k .phase ≡ Idle
-      idle z = subst (λ (j : ℕ). thread-of (w .engine) j .phase ≡ Idle) (sym z) no-owner-idle
-
-      go : (k ≡ 0) ⊎ (k ≡ 0 → ⊥) →
-          Back-seat k (thread-of (w .engine) k) (h .present k)
-      go (inl z) = record {
-        named = f .seats k .named;
-        inside = f .seats k .inside;
-        phase =
-            subst (λ (p : Phase). Phase-fits (w .engine .set-up) ws (h .updaters) base (front (w .engine)) (owner-of back-state) k (thread-of (w .engine) k) (h .present k .work) (h .present k .fall) p)
-            (sym (idle z)) (λ s e. z);
-        point = f .seats k .point;
-        spared = f .seats k .spared;
-      }
-      go (inr z) =
-          seat-apart (w .engine .set-up) ws (h .updaters) (h .updaters) (front (w .engine)) (front (w .engine)) (owner-of (w .engine)) (owner-of back-state) k base
-          (thread-of (w .engine) k) (h .present k) (grows-none ws (h .updaters)) (λ e. apart z) (f .seats k)
+  -- another thread owns what it owned
+  back-rest : (k : ℕ) → (k ≡ n → ⊥) → Back-seat k (thread-of (w .engine) k) (h .present k)
+  back-rest k d =
+      seat-owners (λ z s e. released-gains (w .engine) n None s k z e) (λ busy s e. released-keeps (w .engine) n None s k d e) (f .seats k)
 
   -- the caller's transaction: one more call, and the loss that it is told is on record
   abbrev went-back : Transaction
@@ -197,12 +152,13 @@ module _ (ws : List ℕ) (base : ℕ) (w : World) (h : History) (beats : Table) 
     named = f .seats n .named;
     inside = λ e. refl;
     phase = λ s e. released-nothing (w .engine) n None s e;
-    point = point-back ws (h .updaters) n (h .present n .work) (f .seats n .point);
+    point = point-alike (h .present n .work) (called (Back n) (h .present n .work)) refl refl (λ m e. e) (f .seats n .point);
     spared = spared-called (w .engine .set-up) (h .updaters) (Back n) (h .present n .work) (h .present n .fall) (f .seats n .spared);
   }
 
   back-seat : Back-seat n (at back-threads n)
-      (fallen (length (h .updaters)) went-back (or-else (ended-loss (ending-of (thread-of (w .engine) n .phase))) (loss-in (at back-threads n .phase))))
+      (fallen (length (h .updaters)) went-back
+      (or-else (ended-loss (ending-of (thread-of (w .engine) n .phase))) (loss-in (at back-threads n .phase))))
   back-seat =
       subst (λ (t : Thread). Back-seat n t
       (fallen (length (h .updaters)) went-back (or-else (ended-loss (ending-of (thread-of (w .engine) n .phase))) (loss-in (t .phase)))))
@@ -220,10 +176,6 @@ module _ (ws : List ℕ) (base : ℕ) (w : World) (h : History) (beats : Table) 
 
 -- a back is refused, or its thread lets all its stripes go
 pub back-keeps : Back-keeps
-back-keeps ws base w h beats n f = go (admitted (w .engine) Backing n) refl
-  where
-    go : (r : Result (Unit {0}) Refusal) → admitted (w .engine) Backing n ≡ r → Kept ws base w h beats (Back n) (back-admitted w n r)
-    go (Err r) e = refused-keeps ws base w h beats (Back n) r f
-    go (Ok y) e =
-        back-leaves ws base w h beats n f
-        (leaves ws base w h n f (back-phase (thread-of (w .engine) n .phase) (admitted-parts (w .engine) Backing n y e .fits)))
+back-keeps ws base w h beats n f =
+    admitted-or-refused ws base w h beats (Back n) f Backing n (back-admitted w n) (λ r. refl)
+    (λ x. back-leaves ws base w h beats n f (leaves ws base w h n f (back-phase (thread-of (w .engine) n .phase) (x .fits))))

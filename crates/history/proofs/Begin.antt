@@ -1,24 +1,21 @@
 -- What a begin keeps.
 use Prim.Native.Nat.{ℕ}
-use lib.Dec.{leb}
 use lib.ListN.{length}
 use mathlib.Core.Bool.{Bool, true, false}
 use mathlib.Core.List.{List, []}
 use mathlib.Core.Path.{_≡_, refl, ap, sym, subst}
 use native.Mathlib.Omega.{arith}
-use Rattle.common.specs.declared.refusal.Refusal.{Refusal}
 use Rattle.common.specs.declared.refusal.Refusal.the-variants.{RollPending}
 use Rattle.history.proofs.Alone.{alone-keeps}
-use Rattle.history.proofs.Fronts.{hold-none}
-use Rattle.history.proofs.Invariant.{Fits, Seat, front, hold-of}
-use Rattle.history.proofs.Maps.{at-put-same, at-put-other}
-use Rattle.history.proofs.Phases.{Admitted, admitted-parts, fits-idle, idle-phase}
+use Rattle.history.proofs.Holders.{free-by-phase}
+use Rattle.history.proofs.Invariant.{Fits, Seated, hold-of}
+use Rattle.history.proofs.Maps.{at-put-other, at-put-same}
+use Rattle.history.proofs.Phases.{Admitted, idle-fits, idle-phase, thread-not-zero}
 use Rattle.history.proofs.Plan.{Begin-keeps, Kept}
-use Rattle.history.proofs.Refusals.{refused-keeps}
+use Rattle.history.proofs.Refusals.{admitted-or-refused, refused-keeps}
 use Rattle.history.specs.Record.{History, fallen, newborn}
 use Rattle.history.specs.Runs.{loss-in}
-use Rattle.layout.specs.declared.set_up.SetUp.{SetUp}
-use Rattle.rules.specs.Admission.{admitted, is-thread}
+use Rattle.rules.specs.Admission.{is-thread}
 use Rattle.rules.specs.Begin.{begin-admitted, begin-unmarked, fresh}
 use Rattle.rules.specs.Conflicts.{owner-of}
 use Rattle.rules.specs.Maps.{at, put}
@@ -28,26 +25,16 @@ use Rattle.rules.specs.declared.answer.Answer.the-variants.{Done}
 use Rattle.rules.specs.declared.call.Call.the-variants.{Begin}
 use Rattle.rules.specs.declared.kind.Kind.the-variants.{Begin as Beginning}
 use Rattle.rules.specs.declared.phase.Phase.the-variants.{Idle}
-use Rattle.std.proofs.shelf.Tests.{and-parts, both-ways, leb-true}
-use Rattle.std.specs.declared.result.Result.{Result}
-use Rattle.std.specs.declared.result.Result.the-variants.{Ok, Err}
-
--- a thread of the set-up is not 0
-pub thread-not-zero : (u : SetUp) (n : ℕ) → is-thread u n ≡ true → n ≡ 0 → ⊥
-thread-not-zero u n e z = absurd (omega (arith, leb-true 1 n (and-parts (leb 1 n) (leb n (u .threads)) e .0)))
+use Rattle.std.proofs.shelf.Tests.{both-ways}
 
 module _ (ws : List ℕ) (base : ℕ) (w : World) (h : History) (beats : Table) (n : ℕ) (f : Fits ws base w h)
     (inside : is-thread (w .engine .set-up) n ≡ true) (idle : thread-of (w .engine) n .phase ≡ Idle) where
   -- an idle thread owns nothing
   owns-nothing : (s : ℕ) → owner-of (w .engine) s ≡ n → ⊥
-  owns-nothing s e =
-      thread-not-zero (w .engine .set-up) n inside
-      (fits-idle (w .engine .set-up) ws (h .updaters) base (front (w .engine)) (owner-of (w .engine)) n (thread-of (w .engine) n)
-      (h .present n .work) (h .present n .fall) (thread-of (w .engine) n .phase) idle (f .seats n .phase) s e)
+  owns-nothing s e = thread-not-zero (w .engine .set-up) n inside (idle-fits (f .seats n) idle s e)
 
   -- a transaction that has done nothing fits at the present moment
-  fresh-seat : Seat (w .engine .set-up) ws (h .updaters) base (front (w .engine)) (owner-of (w .engine)) n (fresh (w .engine .clock))
-      (newborn n (length (h .updaters)))
+  fresh-seat : Seated ws base w h (owner-of (w .engine)) n (fresh (w .engine .clock)) (newborn n (length (h .updaters)))
   fresh-seat = record {
     named = refl;
     inside = λ e. absurd (both-ways (is-thread (w .engine .set-up) n) e inside);
@@ -81,9 +68,10 @@ module _ (ws : List ℕ) (base : ℕ) (w : World) (h : History) (beats : Table) 
   begin-runs =
       alone-keeps ws base w h beats (Begin n) Done [] (w .engine .mark) (put (w .engine .threads) n (fresh (w .engine .clock))) f
       (λ k d. at-put-other (w .engine .threads) n k (fresh (w .engine .clock)) d)
-      (hold-none (thread-of (w .engine) n) Idle idle refl)
+      (free-by-phase (thread-of (w .engine) n) Idle idle refl)
       (ap hold-of same) refl
-      (subst (λ (t : Thread). Seat (w .engine .set-up) ws (h .updaters) base (front (w .engine)) (owner-of (w .engine)) n t (fallen (length (h .updaters)) (newborn n (length (h .updaters))) (loss-in (t .phase))))
+      (subst (λ (t : Thread). Seated ws base w h (owner-of (w .engine)) n t
+      (fallen (length (h .updaters)) (newborn n (length (h .updaters))) (loss-in (t .phase))))
       (sym same) fresh-seat)
       (f .seats n .point, f .past-points) (f .seats n .spared, f .past-spared)
     where
@@ -92,12 +80,9 @@ module _ (ws : List ℕ) (base : ℕ) (w : World) (h : History) (beats : Table) 
 
 -- a begin is refused, or starts a transaction that has done nothing
 pub begin-keeps : Begin-keeps
-begin-keeps ws base w h beats n f = go (admitted (w .engine) Beginning n) refl
+begin-keeps ws base w h beats n f =
+    admitted-or-refused ws base w h beats (Begin n) f Beginning n (begin-admitted w n) (λ r. refl) (unmarked (w .engine .mark))
   where
     unmarked : (m : Bool) → Admitted (w .engine) Beginning n → Kept ws base w h beats (Begin n) (begin-unmarked w n m)
-    unmarked true x = refused-keeps ws base w h beats (Begin n) RollPending f
+    unmarked true x = refused-keeps ws base w h beats (Begin n) f RollPending
     unmarked false x = begin-runs ws base w h beats n f (x .inside) (idle-phase (thread-of (w .engine) n .phase) (x .fits))
-
-    go : (r : Result (Unit {0}) Refusal) → admitted (w .engine) Beginning n ≡ r → Kept ws base w h beats (Begin n) (begin-admitted w n r)
-    go (Err r) e = refused-keeps ws base w h beats (Begin n) r f
-    go (Ok x) e = unmarked (w .engine .mark) (admitted-parts (w .engine) Beginning n x e)

@@ -6,20 +6,19 @@ use mathlib.Core.List.{List, []}
 use mathlib.Core.Logic.{_⊎_, inl, inr}
 use mathlib.Core.Path.{_≡_, refl, ap, sym, subst, _∙_}
 use native.Mathlib.Omega.{arith}
-use Rattle.history.proofs.Callers.{present-unlost, draining-other}
-use Rattle.history.proofs.Growth.{Grows, loads-grow, point-grows, points-grow, all-spared-grow}
-use Rattle.history.proofs.Invariant.{Fits, Front, Hold, Stripe-fits, Word-fits, Sealed-fits, Phase-fits, Seat, Draining, Spent, front, hold-in, hold-of, left-in, left-of, top, top-of}
-use Rattle.history.proofs.Lines.{leads-at}
-use Rattle.history.proofs.Logs.{drain-grows, put-in-same}
-use Rattle.history.proofs.Nobody.{seat-nobody}
+use Rattle.history.proofs.Growth.{Grows, all-spared-grow, loads-grow, point-alike, point-grows, points-grow, stores-same}
+use Rattle.history.proofs.Holders.{held-by}
+use Rattle.history.proofs.Invariant.{Draining, Fits, Front, Hold, Phase-fits, Sealed-fits, Seat, Spent, Stripe-fits, Word-fits, front, left-in, left-of, top, top-of}
+use Rattle.history.proofs.Lines.{leads-at, present-unlost, work-other}
 use Rattle.history.proofs.Plan.{Kept, then}
+use Rattle.history.proofs.PutIn.{put-in-same}
 use Rattle.history.proofs.Quiet.{quiet-state}
-use Rattle.history.proofs.Seats.{Apart, seat-apart, seat-other, number-other}
+use Rattle.history.proofs.Seats.{Apart, draining-on, seat-apart, seats-after}
+use Rattle.history.proofs.SerialRuns.{drain-grows}
 use Rattle.history.specs.Law.{updater, Loads-at, Spared}
 use Rattle.history.specs.Record.{History, Line, Transaction, Work, Fall, called, with-work, watched, rewritten, no-work}
 use Rattle.history.specs.Runs.{loss-in, line-of}
 use Rattle.history.specs.Serial.{put-in, serial-run, not-drained}
-use Rattle.layout.specs.Lookups.{has-key}
 use Rattle.layout.specs.SetUps.{stripe-of}
 use Rattle.layout.specs.declared.set_up.SetUp.{SetUp}
 use Rattle.rules.specs.Admission.{is-thread}
@@ -39,6 +38,7 @@ use Rattle.std.specs.declared.option.Option.the-variants.{Some, None}
 abbrev pub drained-engine : World → Map Stripe → Map Thread → State
 drained-engine w ss ts = quiet-state (w .engine) (w .engine .mark) ss ts
 
+-- the outcome of a drain that leaves them and these words, with so many left to drain
 abbrev pub drained-outcome : World → ℕ → List ℕ → Map Stripe → Map Thread → Outcome
 drained-outcome w j now ss ts = record { answer = Left j; told = []; after = record { engine = drained-engine w ss ts; words = now } }
 
@@ -63,21 +63,16 @@ pub record Drain-step (ws : List ℕ) (base : ℕ) (w : World) (h : History) (n 
   pub words-other : (a : ℕ) → (owner-of (w .engine) (stripe-of (w .engine .set-up) a) ≡ n → ⊥) → getD (w .words) a 0 ≡ getD now a 0
   pub gains : (k s : ℕ) → (k ≡ 0 → ⊥) → (k ≡ n → ⊥) → owner-of (drained-engine w ss ts) s ≡ k → owner-of (w .engine) s ≡ k
   pub keeps : (k s : ℕ) → (k ≡ n → ⊥) → owner-of (w .engine) s ≡ k → owner-of (drained-engine w ss ts) s ≡ k
-  pub phase : Phase-fits (w .engine .set-up) ws (drained-once h n place) base (front (drained-engine w ss ts)) (owner-of (drained-engine w ss ts)) n
-      (at ts n) (called (Drain n) (h .present n .work)) (h .present n .fall) (at ts n .phase)
+  pub phase : Phase-fits (w .engine .set-up) ws (drained-once h n place) base (front (drained-engine w ss ts))
+      (owner-of (drained-engine w ss ts)) n (at ts n) (called (Drain n) (h .present n .work)) (h .present n .fall) (at ts n .phase)
   pub unlost : loss-in (at ts n .phase) ≡ None
   pub goes-on : Goes-on-draining (at ts n) (called (Drain n) (h .present n .work))
-
--- how a sealed thread holds its stripes
-pub held-by : (st : State) (n ticket drained s : ℕ) → thread-of st n .phase ≡ Sealed ticket drained → owner-of st s ≡ n →
-    front st s .hold ≡ Some (record { ticket = ticket; left = drop drained (thread-of st n .writes) })
-held-by st n ticket drained s p e =
-    ap (λ (k : ℕ). hold-of (thread-of st k)) e ∙ ap (hold-in (thread-of st n .writes)) p
 
 module _ (ws : List ℕ) (base : ℕ) (w : World) (h : History) (beats : Table) (n ticket drained j : ℕ) (now : List ℕ) (ss : Map Stripe)
     (ts : Map Thread) (f : Fits ws base w h)
     (inside : is-thread (w .engine .set-up) n ≡ true)
-    (q : Sealed-fits (w .engine .set-up) (h .updaters) base (owner-of (w .engine)) n ticket drained (thread-of (w .engine) n) (h .present n .work) (h .present n .fall))
+    (q : Sealed-fits (w .engine .set-up) (h .updaters) base (owner-of (w .engine)) n ticket drained (thread-of (w .engine) n)
+    (h .present n .work) (h .present n .fall))
     (sealed : thread-of (w .engine) n .phase ≡ Sealed ticket drained)
     (x : Drain-step ws base w h n ticket drained (q .place) now ss ts) where
   abbrev u : SetUp
@@ -130,13 +125,14 @@ module _ (ws : List ℕ) (base : ℕ) (w : World) (h : History) (beats : Table) 
   drained-stripe : (s : ℕ) → (owner-of (w .engine) s ≡ n) ⊎ (owner-of (w .engine) s ≡ n → ⊥) →
       Stripe-fits u vs base (w .engine .clock) s (front after s)
   drained-stripe s (inl e) =
-      let old : top (front (w .engine) s) ≡ ticket = ap (top-of (front (w .engine) s .version)) (held-by (w .engine) n ticket drained s sealed e) in
+      let old : top (front (w .engine) s) ≡ ticket =
+      ap (top-of (front (w .engine) s .version)) (held-by (w .engine) n ticket drained s sealed e) in
       record {
         rises = omega (arith, x .rises s e, x .tops s e);
         by-clock = omega (arith, f .stripes s .by-clock, old, x .tops s e);
         untouched = λ k low high.
-            ap (has-key (λ y. stripe-of u (y .address)) s) (grown .stores k (omega (arith, same-length)))
-            ∙ f .stripes s .untouched k (omega (arith, old, x .tops s e)) (omega (arith, same-length));
+            let l : k < length us = omega (arith, same-length) in
+            stores-same grown u s k l ∙ f .stripes s .untouched k (omega (arith, old, x .tops s e)) l;
       }
   drained-stripe s (inr d) =
       subst (λ (y : Front). Stripe-fits u vs base (w .engine .clock) s y) (sym (x .fronts-other s d))
@@ -144,8 +140,8 @@ module _ (ws : List ℕ) (base : ℕ) (w : World) (h : History) (beats : Table) 
         rises = f .stripes s .rises;
         by-clock = f .stripes s .by-clock;
         untouched = λ k low high.
-            ap (has-key (λ y. stripe-of u (y .address)) s) (grown .stores k (omega (arith, same-length)))
-            ∙ f .stripes s .untouched k low (omega (arith, same-length));
+            let l : k < length us = omega (arith, same-length) in
+            stores-same grown u s k l ∙ f .stripes s .untouched k low l;
       })
 
   -- every word fits
@@ -162,24 +158,18 @@ module _ (ws : List ℕ) (base : ℕ) (w : World) (h : History) (beats : Table) 
       let s = stripe-of u a in
       ap (λ (xs : List ℕ). getD xs a 0) same-serial
       ∙ f .words a l
-      ∙ put-in-same (w .words) now (left-in (front (w .engine) s)) a (sym (x .sized)) (x .words-other a d)
+      ∙ put-in-same (w .words) now (left-in (front (w .engine) s)) a l (omega (arith, x .sized)) (x .words-other a d)
       ∙ ap (λ (y : Front). getD (put-in now (left-in y)) a 0) (sym (x .fronts-other s d))
 
   -- the caller's thread
   drained-seat-own : (b : Bool) → Seat u ws vs base (front after) (owner-of after) n (at ts n) (with-work (watched b (h .present n)) mine)
   drained-seat-own b =
-      let p = point-grows ws us vs grown (h .present n .work) (f .seats n .point) in
       record {
         named = f .seats n .named;
         inside = λ e. absurd (both-ways (is-thread u n) e inside);
         phase = x .phase;
-        point = record {
-          moment = p .moment;
-          since-begin = p .since-begin;
-          by-last-load = p .by-last-load;
-          so-far = p .so-far;
-          loads = p .loads;
-        };
+        point =
+            point-alike (h .present n .work) mine refl refl (λ m e. e) (point-grows grown (h .present n .work) (f .seats n .point));
         spared = subst (λ (o : Option Fall). Spared u vs mine o) (sym (q .standing)) tt;
       }
 
@@ -189,42 +179,20 @@ module _ (ws : List ℕ) (base : ℕ) (w : World) (h : History) (beats : Table) 
 
   -- so the other threads are apart from the drain
   others-apart : (k : ℕ) → (k ≡ 0 → ⊥) → (k ≡ n → ⊥) →
-      Apart u ws us vs (front (w .engine)) (front after) (owner-of (w .engine)) (owner-of after) k
+      Apart u ws us vs (front (w .engine)) (front after) (owner-of (w .engine)) (owner-of after) k (thread-of (w .engine) k .phase)
   others-apart k z d = record {
     grows = grown;
     newer = λ i low high e. absurd (omega (arith, same-length));
     same = λ i l e. drained-other i (λ p.
         d (sym e ∙ ap (λ (y : ℕ). updater us y .thread) p ∙ ap (λ (y : Work). y .thread) (q .same) ∙ f .seats n .named));
     gains = λ s e. x .gains k s z d e;
-    keeps = λ s e. x .keeps k s d e;
+    keeps = λ busy s e. x .keeps k s d e;
     fronts = λ s e. inl (x .fronts-other s (free-not-own s e));
   }
-
-  -- a thread other than the caller's, or number 0
-  drained-seat-other : (k : ℕ) → (k ≡ n → ⊥) → (k ≡ 0) ⊎ (k ≡ 0 → ⊥) →
-      Seat u ws vs base (front after) (owner-of after) k (thread-of (w .engine) k) (h .present k)
-  drained-seat-other k d (inl e) =
-      subst (λ (i : ℕ). Seat u ws vs base (front after) (owner-of after) i (thread-of (w .engine) i) (h .present i)) (sym e)
-      (seat-nobody u ws us vs (front (w .engine)) (front after) (owner-of (w .engine)) (owner-of after) base (thread-of (w .engine) 0) (h .present 0)
-      grown (f .seats 0))
-  drained-seat-other k d (inr z) =
-      seat-apart u ws us vs (front (w .engine)) (front after) (owner-of (w .engine)) (owner-of after) k base (thread-of (w .engine) k) (h .present k)
-      grown (λ e. others-apart k z d) (f .seats k)
 
   -- the caller's transaction has one call more
   drained-present : next .present n ≡ with-work (watched (leads-at u line n) (h .present n)) mine
   drained-present = present-unlost u h line refl (x .unlost)
-
-  -- every thread's seat
-  drained-seat : (k : ℕ) → (k ≡ n) ⊎ (k ≡ n → ⊥) → Seat u ws vs base (front after) (owner-of after) k (at ts k) (next .present k)
-  drained-seat k (inl e) =
-      subst (λ (i : ℕ). Seat u ws vs base (front after) (owner-of after) i (at ts i) (next .present i)) (sym e)
-      (subst (λ (y : Transaction). Seat u ws vs base (front after) (owner-of after) n (at ts n) y) (sym drained-present)
-      (drained-seat-own (leads-at u line n)))
-  drained-seat k (inr d) =
-      seat-other u ws base (front after) (owner-of after) h line k (at ts k) d refl vs
-      (subst (λ (t : Thread). Seat u ws vs base (front after) (owner-of after) k t (h .present k)) (sym (x .apart k d))
-      (drained-seat-other k d (cases-eq k 0)))
 
   -- the caller's updater
   spent-own : Goes-on-draining (at ts n) mine → Spent after next (q .place)
@@ -251,19 +219,20 @@ module _ (ws : List ℕ) (base : ℕ) (w : World) (h : History) (beats : Table) 
       go : Spent (w .engine) h k → Spent after next k
       go (inl e) = inl (ap not-drained (drained-other k d) ∙ e)
       go (inr y) =
-          inr (draining-other (w .engine) after h next n k (x .apart) (λ i e. number-other u h line i e) y (not-caller k d y))
+          inr (draining-on y (x .apart (y .thread) (not-caller k d y)) (work-other u h line (y .thread) (not-caller k d y)))
 
   -- every updater loads in the serial run what it loaded
   drained-loads : (k : ℕ) → k < length us → (k ≡ q .place) ⊎ (k ≡ q .place → ⊥) → Loads-at ws vs k (updater vs k)
   drained-loads k l (inl e) =
       subst (λ (i : ℕ). Loads-at ws vs i (updater vs i)) (sym e)
       (subst (λ (y : Work). Loads-at ws vs (q .place) y) (sym drained-own)
-      (loads-grow ws us vs grown (q .place) (h .present n .work) (omega (arith, q .so-far))
+      (loads-grow grown (q .place) (h .present n .work) (omega (arith, q .so-far))
       (subst (λ (y : Work). Loads-at ws us (q .place) y) (q .same) (f .loads (q .place) (q .so-far)))))
   drained-loads k l (inr d) =
       subst (λ (y : Work). Loads-at ws vs k y) (sym (drained-other k d))
-      (loads-grow ws us vs grown k (updater us k) (omega arith) (f .loads k l))
+      (loads-grow grown k (updater us k) (omega arith) (f .loads k l))
 
+  -- such a drain keeps the invariant
   pub step-keeps : Kept ws base w h beats (Drain n) (drained-outcome w j now ss ts)
   step-keeps = record {
     same-set-up = refl;
@@ -277,10 +246,14 @@ module _ (ws : List ℕ) (base : ℕ) (w : World) (h : History) (beats : Table) 
           count = same-length ∙ f .count;
           stripes = λ s. drained-stripe s (cases-eq (owner-of (w .engine) s) n);
           words = λ a l. drained-words a (omega (arith, x .sized)) (cases-eq (owner-of (w .engine) (stripe-of u a)) n);
-          seats = λ k. drained-seat k (cases-eq k n);
+          seats =
+              seats-after h line (λ k. thread-of (w .engine) k) (λ k. at ts k) (x .apart) (λ k. refl)
+              (subst (λ (y : Transaction). Seat u ws vs base (front after) (owner-of after) n (at ts n) y) (sym drained-present)
+              (drained-seat-own (leads-at u line n)))
+              (λ k d. seat-apart grown (λ z live. others-apart k z d) (f .seats k));
           spent = λ k l. drained-spent k (omega (arith, same-length)) (cases-eq k (q .place));
           loads = λ k l. drained-loads k (omega (arith, same-length)) (cases-eq k (q .place));
-          past-points = points-grow ws us vs grown (h .past) (f .past-points);
-          past-spared = all-spared-grow ws us vs grown u (h .past) (f .past-spared);
+          past-points = points-grow grown (h .past) (f .past-points);
+          past-spared = all-spared-grow grown u (h .past) (f .past-spared);
         });
   }

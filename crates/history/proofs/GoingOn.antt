@@ -1,25 +1,24 @@
 -- Calls that go on: one call more of a running transaction, after it may have beaten another one.
 use Prim.Native.Nat.{ℕ, _+_}
-use lib.Dec.{leb}
 use lib.ListN.{length}
-use mathlib.Core.Bool.{Bool, true, false, _&&_}
+use mathlib.Core.Bool.{Bool, true, false, _||_}
 use mathlib.Core.List.{List}
 use mathlib.Core.Logic.{_⊎_, inl, inr}
 use mathlib.Core.Path.{_≡_, refl, ap, sym, subst, _∙_}
 use native.Mathlib.Omega.{arith}
 use Rattle.common.specs.declared.loss.Loss.the-variants.{Stolen}
 use Rattle.contention.specs.Events.{Event}
-use Rattle.history.proofs.Fronts.{hold-none}
-use Rattle.history.proofs.Growth.{grows-none}
-use Rattle.history.proofs.Holders.{unsealed-hold}
-use Rattle.history.proofs.Invariant.{Fits, Running-fits, Phase-fits, Seat, Draining, front, hold-of}
-use Rattle.history.proofs.Lines.{present-caller, present-other, leads-at}
-use Rattle.history.proofs.Plan.{Kept, Leader-beats, then}
+use Rattle.history.proofs.Holders.{free-by-phase, free-not-draining, free-unsealed}
+use Rattle.history.proofs.Invariant.{Draining, Fits, Phase-fits, Runs-on, Seated, front, hold-of}
+use Rattle.history.proofs.Leaders.{leader-beats}
+use Rattle.history.proofs.Lines.{leads-at, present-other, present-unlost, work-other}
+use Rattle.history.proofs.Losses.{seat-lost}
+use Rattle.history.proofs.Phases.{running-fits, running-inside}
+use Rattle.history.proofs.Plan.{Kept, then}
 use Rattle.history.proofs.Quiet.{quiet-keeps, quiet-outcome, quiet-state}
-use Rattle.history.proofs.Running.{running-fits, running-member}
-use Rattle.history.proofs.Seats.{Apart, running-apart, sealed-apart, seat-other, number-other}
+use Rattle.history.proofs.Seats.{draining-on, seat-other, seat-owners}
 use Rattle.history.specs.Law.{Point, Spared}
-use Rattle.history.specs.Record.{History, Line, Transaction, Work, Fall, acted, caller, deed, fallen, first-fall, leads, or-else, past-after, sealed-after, told-loss, watched, with-work}
+use Rattle.history.specs.Record.{History, Line, Transaction, Work, Fall, acted, caller, deed, fallen, leads, past-after, sealed-after, told-loss, watched, with-work}
 use Rattle.history.specs.Runs.{line-of, loss-in}
 use Rattle.rules.specs.Admission.{is-running, is-sealed, is-thread}
 use Rattle.rules.specs.Conflicts.{owner-of}
@@ -29,10 +28,10 @@ use Rattle.rules.specs.States.{State, Stripe, Thread, World, stripe-at, thread-
 use Rattle.rules.specs.declared.answer.Answer.{Answer}
 use Rattle.rules.specs.declared.call.Call.{Call}
 use Rattle.rules.specs.declared.phase.Phase.{Phase}
-use Rattle.rules.specs.declared.phase.Phase.the-variants.{Idle, Running, Sealed, Lost}
-use Rattle.std.proofs.shelf.Tests.{and-parts, both-ways, cases-eq, leb-true}
+use Rattle.rules.specs.declared.phase.Phase.the-variants.{Running, Lost}
+use Rattle.std.proofs.shelf.Tests.{both-ways, cases-eq, or-cases}
 use Rattle.std.specs.declared.option.Option.{Option}
-use Rattle.std.specs.declared.option.Option.the-variants.{Some, None}
+use Rattle.std.specs.declared.option.Option.the-variants.{None}
 use Rattle.std.specs.shelf.Lists.{All}
 
 -- the call, by its answer, is one call more of its thread's transaction, and does this to its work
@@ -66,10 +65,9 @@ pub record Goes-through (ws : List ℕ) (base : ℕ) (w : World) (h : History) (
   pub others : (k : ℕ) → (k ≡ n → ⊥) → Left-or-beaten beats n k (thread-of (w .engine) k) (at ts k)
   pub stripes : (s : ℕ) → (at ss s ≡ stripe-at (w .engine) s) ⊎ Taken-by (w .engine) n s (at ss s) ts
   pub running : at ts n .phase ≡ Running
-  pub fits : Running-fits (w .engine .set-up) ws (h .updaters) base (front (w .engine)) (λ s. at ss s .owner) n (at ts n)
-      (more (h .present n .work)) (h .present n .fall)
+  pub fits : Runs-on ws base w h (λ s. at ss s .owner) n (at ts n) (more (h .present n .work)) (h .present n .fall)
 
-module _ (leader-beats : Leader-beats) (ws : List ℕ) (base : ℕ) (w : World) (h : History) (beats : Table) (c : Call) (a : Answer)
+module _ (ws : List ℕ) (base : ℕ) (w : World) (h : History) (beats : Table) (c : Call) (a : Answer)
     (es : List Event) (more : Work → Work) (m : Bool) (ss : Map Stripe) (ts : Map Thread) (f : Fits ws base w h)
     (run : thread-of (w .engine) (caller c) .phase ≡ Running)
     (goes : Goes-on c a (length (h .updaters)) more) (x : Goes-through ws base w h beats (caller c) more ss ts) where
@@ -89,12 +87,15 @@ module _ (leader-beats : Leader-beats) (ws : List ℕ) (base : ℕ) (w : World) 
     where
       other : Left-or-beaten beats (caller c) k (thread-of (w .engine) k) (at ts k) → hold-of (at ts k) ≡ hold-of (thread-of (w .engine) k)
       other (inl e) = ap hold-of e
-      other (inr b) = hold-none (at ts k) (Lost (Stolen (caller c))) (b .stolen) refl ∙ sym (hold-none (thread-of (w .engine) k) Running (b .ran) refl)
+      other (inr b) =
+          free-by-phase (at ts k) (Lost (Stolen (caller c))) (b .stolen) refl
+          ∙ sym (free-by-phase (thread-of (w .engine) k) Running (b .ran) refl)
 
       go : (k ≡ caller c) ⊎ (k ≡ caller c → ⊥) → hold-of (at ts k) ≡ hold-of (thread-of (w .engine) k)
       go (inl e) =
           subst (λ (j : ℕ). hold-of (at ts j) ≡ hold-of (thread-of (w .engine) j)) (sym e)
-          (hold-none (at ts (caller c)) Running (x .running) refl ∙ sym (hold-none (thread-of (w .engine) (caller c)) Running run refl))
+          (free-by-phase (at ts (caller c)) Running (x .running) refl
+          ∙ sym (free-by-phase (thread-of (w .engine) (caller c)) Running run refl))
       go (inr d) = other (x .others k d)
 
   -- so the stripes show what they showed
@@ -108,7 +109,9 @@ module _ (leader-beats : Leader-beats) (ws : List ℕ) (base : ℕ) (w : World) 
       }
       go (inr y) = λ i. record {
         version = y .version i;
-        hold = (ap (λ (k : ℕ). hold-of (at ts k)) (y .owner) ∙ hold-none (at ts (caller c)) Running (x .running) refl ∙ sym (y .free)) i;
+        hold =
+            (ap (λ (k : ℕ). hold-of (at ts k)) (y .owner) ∙ free-by-phase (at ts (caller c)) Running (x .running) refl
+            ∙ sym (y .free)) i;
       }
 
   -- another thread gains no stripe
@@ -121,7 +124,7 @@ module _ (leader-beats : Leader-beats) (ws : List ℕ) (base : ℕ) (w : World) 
 
   -- and it keeps each one, unless it was taken from it, when it was neither running nor sealed
   keeps-all : (k s : ℕ) → (k ≡ caller c → ⊥) → at ts k ≡ thread-of (w .engine) k →
-      (is-running (thread-of (w .engine) k .phase) ≡ true) ⊎ (is-sealed (thread-of (w .engine) k .phase) ≡ true) →
+      (is-running (thread-of (w .engine) k .phase) || is-sealed (thread-of (w .engine) k .phase)) ≡ true →
       owner-of (w .engine) s ≡ k → at ss s .owner ≡ k
   keeps-all k s d same busy e = go (x .stripes s)
     where
@@ -134,92 +137,38 @@ module _ (leader-beats : Leader-beats) (ws : List ℕ) (base : ℕ) (w : World) 
           r
       was y (inr r) =
           both-ways (is-sealed (thread-of (w .engine) k .phase))
-          (unsealed-hold (thread-of (w .engine) k .writes) (thread-of (w .engine) k .phase)
+          (free-unsealed (thread-of (w .engine) k .writes) (thread-of (w .engine) k .phase)
           (ap (λ (j : ℕ). hold-of (thread-of (w .engine) j)) (sym e) ∙ y .free))
           r
 
       go : (at ss s ≡ stripe-at (w .engine) s) ⊎ Taken-by (w .engine) (caller c) s (at ss s) ts → at ss s .owner ≡ k
       go (inl p) = ap (λ (y : Stripe). y .owner) p ∙ e
-      go (inr y) = absurd (was y busy)
+      go (inr y) = absurd (was y (or-cases (is-running (thread-of (w .engine) k .phase)) (is-sealed (thread-of (w .engine) k .phase)) busy))
 
-  -- a thread that is as it was is apart from the call, keeps its facts, and so its seat
-  module _ (k : ℕ) (d : k ≡ caller c → ⊥) (same : at ts k ≡ thread-of (w .engine) k) where
-    apart : (is-running (thread-of (w .engine) k .phase) ≡ true) ⊎ (is-sealed (thread-of (w .engine) k .phase) ≡ true) →
-        Apart (w .engine .set-up) ws (h .updaters) (h .updaters) (front (w .engine)) (front (w .engine)) (owner-of (w .engine)) (owner-of after) k
-    apart busy = record {
-      grows = grows-none ws (h .updaters);
-      newer = λ j low high e. omega arith;
-      same = λ j l e. refl;
-      gains = λ s e. gains-none k s d e;
-      keeps = λ s e. keeps-all k s d same busy e;
-      fronts = λ s e. inl refl;
-    }
-
-    phase-left : (p : Phase) → thread-of (w .engine) k .phase ≡ p →
-        Phase-fits (w .engine .set-up) ws (h .updaters) base (front (w .engine)) (owner-of (w .engine)) k (thread-of (w .engine) k) (h .present k .work) (h .present k .fall) p →
-        Phase-fits (w .engine .set-up) ws (h .updaters) base (front (w .engine)) (owner-of after) k (thread-of (w .engine) k) (h .present k .work) (h .present k .fall) p
-    phase-left Idle e y = λ s o. y s (gains-none k s d o)
-    phase-left Running e y =
-        running-apart (w .engine .set-up) ws (h .updaters) (h .updaters) (front (w .engine)) (front (w .engine)) (owner-of (w .engine)) (owner-of after) k
-        (apart (inl (ap is-running e))) base (thread-of (w .engine) k) (h .present k .work) (h .present k .fall) y
-    phase-left (Sealed i j) e y =
-        sealed-apart (w .engine .set-up) ws (h .updaters) (h .updaters) (front (w .engine)) (front (w .engine)) (owner-of (w .engine)) (owner-of after) k
-        (apart (inr (ap is-sealed e))) base i j (thread-of (w .engine) k) (h .present k .work) (h .present k .fall) (f .seats k .named) y
-    phase-left (Lost l) e y = y
-
-    seat-left : Seat (w .engine .set-up) ws (h .updaters) base (front (w .engine)) (owner-of after) k (at ts k) (next .present k)
-    seat-left =
-        seat-other (w .engine .set-up) ws base (front (w .engine)) (owner-of after) h line k (at ts k) d refl (h .updaters)
-        (subst (λ (t : Thread). Seat (w .engine .set-up) ws (h .updaters) base (front (w .engine)) (owner-of after) k t (h .present k)) (sym same)
-        (record {
-          named = f .seats k .named;
-          inside = f .seats k .inside;
-          phase = phase-left (thread-of (w .engine) k .phase) refl (f .seats k .phase);
-          point = f .seats k .point;
-          spared = f .seats k .spared;
-        }))
+  -- a thread that is as it was is apart from the call, and so keeps its seat
+  seat-left : (k : ℕ) → (k ≡ caller c → ⊥) → at ts k ≡ thread-of (w .engine) k →
+      Seated ws base w h (owner-of after) k (at ts k) (next .present k)
+  seat-left k d same =
+      seat-other h line d refl
+      (subst (λ (t : Thread). Seated ws base w h (owner-of after) k t (h .present k)) (sym same)
+      (seat-owners (λ z s e. gains-none k s d e) (λ busy s e. keeps-all k s d same busy e) (f .seats k)))
 
   -- a leader is beaten by nobody
   leader-unbeaten : (k : ℕ) → (k ≡ caller c → ⊥) → beats (caller c) k ≡ true → leads beats k (w .engine .set-up .threads) ≡ true → ⊥
   leader-unbeaten k d wins led =
-      let p = and-parts (leb 1 (caller c)) (leb (caller c) (w .engine .set-up .threads)) (running-member ws base w h (caller c) f run) in
       both-ways (beats (caller c) k)
-      (leader-beats beats k (caller c) (w .engine .set-up .threads) led (leb-true 1 (caller c) (p .0))
-      (leb-true (caller c) (w .engine .set-up .threads) (p .1)) (λ e. d (sym e)) .1)
-      wins
+      (leader-beats (w .engine .set-up) beats k (caller c) led (running-inside (f .seats (caller c)) run) (λ e. d (sym e)) .1) wins
 
   -- a thread that was beaten is lost, and its fall is on record; it did not lead, so it is spared nothing
-  module _ (k : ℕ) (d : k ≡ caller c → ⊥) (b : Beaten-by beats (caller c) k (thread-of (w .engine) k) (at ts k)) where
-    abbrev fell : Transaction
-    fell = record {
-      work = h .present k .work;
-      led = h .present k .led && leads-at (w .engine .set-up) line k;
-      fall = Some (record {
-        cause = Stolen (caller c);
-        moment = length (h .updaters);
-        led = h .present k .led && leads-at (w .engine .set-up) line k;
-      });
-    }
-
-    present-fell : next .present k ≡ fell
-    present-fell =
-        present-other (w .engine .set-up) h line k d
-        ∙ ap (λ (p : Phase). fallen (length (h .updaters)) (watched (leads-at (w .engine .set-up) line k) (h .present k)) (loss-in p)) (b .stolen)
-        ∙ ap (first-fall (Stolen (caller c)) (length (h .updaters)) (watched (leads-at (w .engine .set-up) line k) (h .present k)))
-        (running-fits ws base w h k f (b .ran) .standing)
-
-    seat-beaten : Seat (w .engine .set-up) ws (h .updaters) base (front (w .engine)) (owner-of after) k (at ts k) (next .present k)
-    seat-beaten =
-        subst (λ (y : Transaction). Seat (w .engine .set-up) ws (h .updaters) base (front (w .engine)) (owner-of after) k (at ts k) y) (sym present-fell)
-        (record {
-          named = f .seats k .named;
-          inside = λ e. absurd (both-ways (is-thread (w .engine .set-up) k) e (running-member ws base w h k f (b .ran)));
-          phase = subst (λ (p : Phase). Phase-fits (w .engine .set-up) ws (h .updaters) base (front (w .engine)) (owner-of after) k (at ts k) (fell .work) (fell .fall) p)
-              (sym (b .stolen))
-              (record { unnumbered = running-fits ws base w h k f (b .ran) .unnumbered; fall = _; fallen = refl });
-          point = f .seats k .point;
-          spared = λ led. leader-unbeaten k d (b .beaten) (and-parts (h .present k .led) (leads-at (w .engine .set-up) line k) led .1);
-        })
+  seat-beaten : (k : ℕ) → (k ≡ caller c → ⊥) → Beaten-by beats (caller c) k (thread-of (w .engine) k) (at ts k) →
+      Seated ws base w h (owner-of after) k (at ts k) (next .present k)
+  seat-beaten k d b =
+      subst (λ (y : Transaction). Seated ws base w h (owner-of after) k (at ts k) y)
+      (sym (present-other (w .engine .set-up) h line k d
+      ∙ ap (λ (p : Phase). fallen (length (h .updaters)) (watched (leads-at (w .engine .set-up) line k) (h .present k)) (loss-in p))
+      (b .stolen)))
+      (seat-lost (h .present k) (Stolen (caller c)) (length (h .updaters)) (leads-at (w .engine .set-up) line k) (f .seats k)
+      (b .ran) (b .stolen) (λ led. leader-unbeaten k d (b .beaten) led))
 
   -- the caller's transaction has one call more
   abbrev went : Transaction
@@ -227,17 +176,18 @@ module _ (leader-beats : Leader-beats) (ws : List ℕ) (base : ℕ) (w : World) 
 
   present-went : next .present (caller c) ≡ went
   present-went =
-      present-caller (w .engine .set-up) h line (caller c) refl
-      ∙ (λ i. fallen (length (h .updaters)) (goes .acts (watched (leads-at (w .engine .set-up) line (caller c)) (h .present (caller c))) i)
-      (or-else (goes .told i) (loss-in (x .running i))))
+      present-unlost (w .engine .set-up) h line (goes .told) (ap loss-in (x .running))
+      ∙ goes .acts (watched (leads-at (w .engine .set-up) line (caller c)) (h .present (caller c)))
 
-  seat-went : Seat (w .engine .set-up) ws (h .updaters) base (front (w .engine)) (owner-of after) (caller c) (at ts (caller c)) (next .present (caller c))
+  seat-went : Seated ws base w h (owner-of after) (caller c) (at ts (caller c)) (next .present (caller c))
   seat-went =
-      subst (λ (y : Transaction). Seat (w .engine .set-up) ws (h .updaters) base (front (w .engine)) (owner-of after) (caller c) (at ts (caller c)) y) (sym present-went)
+      subst (λ (y : Transaction). Seated ws base w h (owner-of after) (caller c) (at ts (caller c)) y) (sym present-went)
       (record {
         named = goes .thread (h .present (caller c) .work) ∙ f .seats (caller c) .named;
-        inside = λ e. absurd (both-ways (is-thread (w .engine .set-up) (caller c)) e (running-member ws base w h (caller c) f run));
-        phase = subst (λ (p : Phase). Phase-fits (w .engine .set-up) ws (h .updaters) base (front (w .engine)) (owner-of after) (caller c) (at ts (caller c)) (went .work) (went .fall) p)
+        inside = λ e. absurd (both-ways (is-thread (w .engine .set-up) (caller c)) e (running-inside (f .seats (caller c)) run));
+        phase =
+            subst (λ (p : Phase). Phase-fits (w .engine .set-up) ws (h .updaters) base (front (w .engine)) (owner-of after) (caller c)
+            (at ts (caller c)) (went .work) (went .fall) p)
             (sym (x .running)) (x .fits);
         point = record {
           moment = base + at ts (caller c) .snapshot;
@@ -250,52 +200,45 @@ module _ (leader-beats : Leader-beats) (ws : List ℕ) (base : ℕ) (w : World) 
       })
 
   -- every thread's seat after the call
-  seat-next : (k : ℕ) → Seat (w .engine .set-up) ws (h .updaters) base (front (w .engine)) (owner-of after) k (at ts k) (next .present k)
+  seat-next : (k : ℕ) → Seated ws base w h (owner-of after) k (at ts k) (next .present k)
   seat-next k = go (cases-eq k (caller c))
     where
       other : (k ≡ caller c → ⊥) → Left-or-beaten beats (caller c) k (thread-of (w .engine) k) (at ts k) →
-          Seat (w .engine .set-up) ws (h .updaters) base (front (w .engine)) (owner-of after) k (at ts k) (next .present k)
+          Seated ws base w h (owner-of after) k (at ts k) (next .present k)
       other d (inl e) = seat-left k d e
       other d (inr b) = seat-beaten k d b
 
       go : (k ≡ caller c) ⊎ (k ≡ caller c → ⊥) →
-          Seat (w .engine .set-up) ws (h .updaters) base (front (w .engine)) (owner-of after) k (at ts k) (next .present k)
+          Seated ws base w h (owner-of after) k (at ts k) (next .present k)
       go (inl e) =
-          subst (λ (j : ℕ). Seat (w .engine .set-up) ws (h .updaters) base (front (w .engine)) (owner-of after) j (at ts j) (next .present j)) (sym e) seat-went
+          subst (λ (j : ℕ). Seated ws base w h (owner-of after) j (at ts j) (next .present j)) (sym e) seat-went
       go (inr d) = other d (x .others k d)
 
   -- a sealed thread is neither the caller nor beaten
   drains-on : (k : ℕ) → Draining (w .engine) h k → Draining after next k
-  drains-on k y = go (cases-eq (y .thread) (caller c))
+  drains-on k y = draining-on y (same (x .others (y .thread) apart)) (work-other (w .engine .set-up) h line (y .thread) apart)
     where
-      never-both : Running ≡ Sealed (y .ticket) (y .drained) → ⊥
-      never-both e = let z : _≡_ {A = ℕ} 0 1 = cc in omega arith
+      apart : y .thread ≡ caller c → ⊥
+      apart e = free-not-draining y (free-by-phase (thread-of (w .engine) (caller c)) Running run refl) e
 
-      same : Left-or-beaten beats (caller c) (y .thread) (thread-of (w .engine) (y .thread)) (at ts (y .thread)) → at ts (y .thread) ≡ thread-of (w .engine) (y .thread)
+      same : Left-or-beaten beats (caller c) (y .thread) (thread-of (w .engine) (y .thread)) (at ts (y .thread)) →
+          at ts (y .thread) ≡ thread-of (w .engine) (y .thread)
       same (inl e) = e
-      same (inr b) = absurd (never-both (sym (b .ran) ∙ y .sealed))
-
-      go : (y .thread ≡ caller c) ⊎ (y .thread ≡ caller c → ⊥) → Draining after next k
-      go (inl e) = absurd (never-both (sym run ∙ ap (λ (j : ℕ). thread-of (w .engine) j .phase) (sym e) ∙ y .sealed))
-      go (inr d) = record {
-        thread = y .thread;
-        ticket = y .ticket;
-        drained = y .drained;
-        sealed = ap (λ (t : Thread). t .phase) (same (x .others (y .thread) d)) ∙ y .sealed;
-        numbered = ap (λ (z : Work). z .number) (number-other (w .engine .set-up) h line (y .thread) d) ∙ y .numbered;
-      }
+      same (inr b) = absurd (free-not-draining y (free-by-phase (thread-of (w .engine) (y .thread)) Running (b .ran) refl) refl)
 
   -- a call that goes on keeps everything
   pub goes-on-keeps : Kept ws base w h beats c (quiet-outcome w a es after)
   goes-on-keeps = quiet-keeps ws base w h beats c a es m ss ts f (record {
     fronts = fronts-stay;
     updaters =
-        ap (λ (o : Option ℕ). sealed-after (deed c a) o (acted c (length (h .updaters)) (h .present (caller c)) (deed c a) .work) (h .updaters))
-        (running-fits ws base w h (caller c) f run .unnumbered)
+        ap (λ (o : Option ℕ).
+        sealed-after (deed c a) o (acted c (length (h .updaters)) (h .present (caller c)) (deed c a) .work) (h .updaters))
+        (running-fits (f .seats (caller c)) run .unnumbered)
         ∙ goes .updaters (acted c (length (h .updaters)) (h .present (caller c)) (deed c a) .work) (h .updaters);
     seats = seat-next;
     drains = drains-on;
     past-points = subst (All (λ t. Point ws (h .updaters) (t .work))) (sym (goes .past (h .present (caller c)) (h .past))) (f .past-points);
     past-spared =
-        subst (All (λ t. Spared (w .engine .set-up) (h .updaters) (t .work) (t .fall))) (sym (goes .past (h .present (caller c)) (h .past))) (f .past-spared);
+        subst (All (λ t. Spared (w .engine .set-up) (h .updaters) (t .work) (t .fall)))
+        (sym (goes .past (h .present (caller c)) (h .past))) (f .past-spared);
   })

@@ -1,71 +1,45 @@
 -- From the invariant to the law.
 use Prim.Native.Nat.{ℕ, _<_}
 use lib.ListN.{length, getD, drop}
-use mathlib.Core.Bool.{Bool, true, false}
+use mathlib.Core.Bool.{true}
 use mathlib.Core.List.{List, []}
 use mathlib.Core.Logic.{_⊎_, inl, inr}
 use mathlib.Core.Path.{_≡_, refl, ap, sym, _∙_}
 use native.Mathlib.Omega.{arith}
-use Rattle.history.proofs.Alone.{free-not-sealed}
+use Rattle.history.proofs.Holders.{free-not-draining, sealed-or-free}
 use Rattle.history.proofs.Invariant.{Draining, Fits, Sealed-fits, Spent, front, hold-in, hold-of, left-in, left-of}
-use Rattle.history.proofs.Phases.{fits-sealed}
+use Rattle.history.proofs.KeyedEntries.{has-dropped, never-has}
+use Rattle.history.proofs.Phases.{sealed-fits}
 use Rattle.history.proofs.Plan.{Fits-holds}
-use Rattle.history.proofs.Rests.{key-of-left}
-use Rattle.history.proofs.Undrained.{has-address, length-put-in, length-serial-run, none-undrained, one-undrained}
+use Rattle.history.proofs.PutIn.{address-of, has-address, none-undrained, one-undrained, put-in-length}
+use Rattle.history.proofs.SerialRuns.{serial-length}
 use Rattle.history.specs.Law.{updater}
 use Rattle.history.specs.Record.{History}
 use Rattle.history.specs.Serial.{all-not-drained, drain-count, not-drained, put-in, serial-run}
 use Rattle.layout.specs.SetUps.{stripe-of}
 use Rattle.layout.specs.declared.entries.WriteEntry.{WriteEntry}
 use Rattle.rules.specs.Conflicts.{owner-of}
-use Rattle.rules.specs.States.{World, Thread, thread-of}
+use Rattle.rules.specs.States.{World, thread-of}
 use Rattle.rules.specs.declared.phase.Phase.{Phase}
-use Rattle.rules.specs.declared.phase.Phase.the-variants.{Idle, Running, Sealed, Lost}
+use Rattle.rules.specs.declared.phase.Phase.the-variants.{Sealed}
 use Rattle.std.proofs.shelf.Lists.{ext-getD}
 use Rattle.std.proofs.shelf.Tests.{both-ways}
 use Rattle.std.specs.declared.option.Option.{Option}
 use Rattle.std.specs.declared.option.Option.the-variants.{Some, None}
 
--- a thread is sealed, or holds nothing
-pub sealed-or-free : (t : Thread) → ((k : ℕ) × (d : ℕ) × (t .phase ≡ Sealed k d)) ⊎ (hold-of t ≡ None)
-sealed-or-free t = go (t .phase) refl
-  where
-    go : (p : Phase) → t .phase ≡ p → ((k : ℕ) × (d : ℕ) × (t .phase ≡ Sealed k d)) ⊎ (hold-of t ≡ None)
-    go Idle e = inr (ap (hold-in (t .writes)) e)
-    go Running e = inr (ap (hold-in (t .writes)) e)
-    go (Sealed k d) e = inl (k, d, e)
-    go (Lost l) e = inr (ap (hold-in (t .writes)) e)
-
 -- one transaction has one number
 one-number : (o : Option ℕ) (k p : ℕ) → o ≡ Some k → o ≡ Some p → k ≡ p
 one-number o k p e i = cc
 
--- a test that is never true is false
-false-if-never : (b : Bool) → (b ≡ true → ⊥) → b ≡ false
-false-if-never true e = absurd (e refl)
-false-if-never false e = refl
-
 module _ (ws : List ℕ) (base : ℕ) (w : World) (h : History) (f : Fits ws base w h) where
-  -- what is known of a sealed thread
-  abbrev Sealed-seat : ℕ → ℕ → ℕ → Type 0
-  Sealed-seat n k d =
-      Sealed-fits (w .engine .set-up) (h .updaters) base (owner-of (w .engine)) n k d (thread-of (w .engine) n) (h .present n .work) (h .present n .fall)
-
-  sealed-seat : (n k d : ℕ) → thread-of (w .engine) n .phase ≡ Sealed k d → Sealed-seat n k d
-  sealed-seat n k d e =
-      fits-sealed (w .engine .set-up) ws (h .updaters) base (front (w .engine)) (owner-of (w .engine)) n (thread-of (w .engine) n)
-      (h .present n .work) (h .present n .fall) (thread-of (w .engine) n .phase) k d e (f .seats n .phase)
-
   -- what a sealed thread has left to drain is what its updater has not drained
   left-undrained : (n k d : ℕ) (e : thread-of (w .engine) n .phase ≡ Sealed k d) →
-      drop d (thread-of (w .engine) n .writes) ≡ not-drained (updater (h .updaters) (sealed-seat n k d e .place))
+      drop d (thread-of (w .engine) n .writes) ≡ not-drained (updater (h .updaters) (sealed-fits (f .seats n) k d e .place))
   left-undrained n k d e =
+      let x = sealed-fits (f .seats n) k d e in
       ap (λ (i : ℕ). drop i (thread-of (w .engine) n .writes)) (x .drains)
       ∙ ap (λ (es : List WriteEntry). drop (drain-count (h .present n .work .calls)) es) (x .log)
       ∙ ap not-drained (sym (x .same))
-    where
-      x : Sealed-seat n k d
-      x = sealed-seat n k d e
 
   -- the owner of the stripe of an address
   abbrev owner-at : ℕ → ℕ
@@ -78,10 +52,11 @@ module _ (ws : List ℕ) (base : ℕ) (w : World) (h : History) (f : Fits ws bas
     where
       owned : (x : Draining (w .engine) h k) → owner-at a ≡ x .thread
       owned x =
-          let s = sealed-seat (x .thread) (x .ticket) (x .drained) (x .sealed) in
+          let s = sealed-fits (f .seats (x .thread)) (x .ticket) (x .drained) (x .sealed) in
           let p : k ≡ s .place = one-number (h .present (x .thread) .work .number) k (s .place) (x .numbered) (s .numbered) in
-          s .owns-log a (key-of-left (λ (y : WriteEntry). y .address) a (x .drained) (thread-of (w .engine) (x .thread) .writes)
-          (ap (has-address a) (left-undrained (x .thread) (x .ticket) (x .drained) (x .sealed) ∙ ap (λ (i : ℕ). not-drained (updater (h .updaters) i)) (sym p)) ∙ e))
+          s .owns-log a (has-dropped address-of a (x .drained) (thread-of (w .engine) (x .thread) .writes)
+          (ap (has-address a) (left-undrained (x .thread) (x .ticket) (x .drained) (x .sealed)
+          ∙ ap (λ (i : ℕ). not-drained (updater (h .updaters) i)) (sym p)) ∙ e))
 
       go : Spent (w .engine) h k → (x : Draining (w .engine) h k) × (owner-at a ≡ x .thread)
       go (inl n) = absurd (both-ways (has-address a []) refl (ap (has-address a) (sym n) ∙ e))
@@ -97,12 +72,13 @@ module _ (ws : List ℕ) (base : ℕ) (w : World) (h : History) (f : Fits ws bas
   held-word : (a k d : ℕ) → a < length (w .words) → thread-of (w .engine) (owner-at a) .phase ≡ Sealed k d → Holder-drains a
   held-word a k d l e =
       one-undrained (w .words) (h .updaters) (x .place) a l
-      (λ i m n. false-if-never (has-address a (not-drained (updater (h .updaters) i))) (λ t. n (same-place i (drains-own a i m t)))) (x .so-far)
+      (λ i m n. never-has address-of a (not-drained (updater (h .updaters) i)) (λ t. n (same-place i (drains-own a i m t)))) (x .so-far)
       ∙ ap (λ (es : List WriteEntry). getD (put-in (w .words) es) a 0)
       (sym (ap (λ (p : Phase). left-of (hold-in (thread-of (w .engine) (owner-at a) .writes) p)) e ∙ left-undrained (owner-at a) k d e))
     where
-      x : Sealed-seat (owner-at a) k d
-      x = sealed-seat (owner-at a) k d e
+      x : Sealed-fits (w .engine .set-up) (h .updaters) base (owner-of (w .engine)) (owner-at a) k d (thread-of (w .engine) (owner-at a))
+          (h .present (owner-at a) .work) (h .present (owner-at a) .fall)
+      x = sealed-fits (f .seats (owner-at a)) k d e
 
       same-place : (i : ℕ) → (y : Draining (w .engine) h i) × (owner-at a ≡ y .thread) → i ≡ x .place
       same-place i y =
@@ -113,19 +89,18 @@ module _ (ws : List ℕ) (base : ℕ) (w : World) (h : History) (f : Fits ws bas
   free-word : (a : ℕ) → hold-of (thread-of (w .engine) (owner-at a)) ≡ None → Holder-drains a
   free-word a free =
       none-undrained (w .words) (h .updaters) a
-      (λ i m. false-if-never (has-address a (not-drained (updater (h .updaters) i))) (λ t. nowhere i (drains-own a i m t)))
+      (λ i m. never-has address-of a (not-drained (updater (h .updaters) i)) (λ t. nowhere i (drains-own a i m t)))
       ∙ ap (λ o. getD (put-in (w .words) (left-of o)) a 0) (sym free)
     where
       nowhere : (i : ℕ) → (y : Draining (w .engine) h i) × (owner-at a ≡ y .thread) → ⊥
-      nowhere i y =
-          free-not-sealed (thread-of (w .engine) (owner-at a)) (y .0 .ticket) (y .0 .drained) free
-          (ap (λ (n : ℕ). thread-of (w .engine) n .phase) (y .1) ∙ y .0 .sealed)
+      nowhere i y = free-not-draining (y .0) free (sym (y .1))
 
   -- so it is at each address
   undrained-word : (a : ℕ) → a < length (w .words) → Holder-drains a
   undrained-word a l = go (sealed-or-free (thread-of (w .engine) (owner-at a)))
     where
-      go : ((k : ℕ) × (d : ℕ) × (thread-of (w .engine) (owner-at a) .phase ≡ Sealed k d)) ⊎ (hold-of (thread-of (w .engine) (owner-at a)) ≡ None) → Holder-drains a
+      go : ((k : ℕ) × (d : ℕ) × (thread-of (w .engine) (owner-at a) .phase ≡ Sealed k d))
+          ⊎ (hold-of (thread-of (w .engine) (owner-at a)) ≡ None) → Holder-drains a
       go (inl x) = held-word a (x .0) (x .1) l (x .2)
       go (inr free) = free-word a free
 
@@ -133,11 +108,11 @@ module _ (ws : List ℕ) (base : ℕ) (w : World) (h : History) (f : Fits ws bas
   undrained-words : put-in (w .words) (all-not-drained (h .updaters)) ≡ serial-run ws (h .updaters)
   undrained-words =
       ext-getD 0 (put-in (w .words) (all-not-drained (h .updaters))) (serial-run ws (h .updaters))
-      (put ∙ f .sized ∙ sym (length-serial-run ws (h .updaters)))
+      (put ∙ f .sized ∙ sym (serial-length ws (h .updaters)))
       (λ a l. let i : a < length (w .words) = omega (arith, put) in undrained-word a i ∙ sym (f .words a i))
     where
       put : length (put-in (w .words) (all-not-drained (h .updaters))) ≡ length (w .words)
-      put = length-put-in (w .words) (all-not-drained (h .updaters))
+      put = put-in-length (w .words) (all-not-drained (h .updaters))
 
 -- what fits a history keeps the law
 pub fits-holds : Fits-holds

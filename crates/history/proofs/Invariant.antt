@@ -5,8 +5,7 @@ use mathlib.Core.Bool.{Bool, true, false}
 use mathlib.Core.List.{List, []}
 use mathlib.Core.Logic.{_⊎_}
 use mathlib.Core.Path.{_≡_}
-use Rattle.common.specs.declared.loss.Loss.{Loss}
-use Rattle.history.specs.Law.{updater, words-at, Loads-at, Point, Spared, Stored-by-other}
+use Rattle.history.specs.Law.{updater, Loads-at, Point, Spared, Stored-by-other}
 use Rattle.history.specs.Record.{History, Transaction, Work, Fall}
 use Rattle.history.specs.Serial.{kept, loaded-on, serial-run, put-in, write-log, drain-count, not-drained}
 use Rattle.layout.specs.Lookups.{has-key}
@@ -27,12 +26,14 @@ pub record Hold : Type 0 where
   pub ticket : ℕ
   pub left : List WriteEntry
 
+-- how a thread with this write log holds its stripes in this phase
 abbrev pub hold-in : List WriteEntry → Phase → Option Hold
 hold-in es Idle = None
 hold-in es Running = None
 hold-in es (Sealed t d) = Some (record { ticket = t; left = drop d es })
 hold-in es (Lost l) = None
 
+-- how a thread holds its stripes
 abbrev pub hold-of : Thread → Option Hold
 hold-of t = hold-in (t .writes) (t .phase)
 
@@ -41,6 +42,7 @@ pub record Front : Type 0 where
   pub version : ℕ
   pub hold : Option Hold
 
+-- what is seen of a stripe now
 abbrev pub front : State → ℕ → Front
 front st s = record { version = stripe-at st s .version; hold = hold-of (thread-of st (owner-of st s)) }
 
@@ -49,6 +51,7 @@ abbrev pub top-of : ℕ → Option Hold → ℕ
 top-of v None = v
 top-of v (Some x) = x .ticket
 
+-- the same of what is seen of it
 abbrev pub top : Front → ℕ
 top f = top-of (f .version) (f .hold)
 
@@ -57,6 +60,7 @@ abbrev pub left-of : Option Hold → List WriteEntry
 left-of None = []
 left-of (Some x) = x .left
 
+-- the same of what is seen of it
 abbrev pub left-in : Front → List WriteEntry
 left-in f = left-of (f .hold)
 
@@ -84,11 +88,17 @@ pub record Mark-fits (u : SetUp) (us : List Work) (n begun end : ℕ) (f : Front
   pub old : e .version ≤ end
   pub state : ((f .version ≡ e .version) × (f .hold ≡ None)) ⊎ Overtaken u us n begun (e .stripe)
 
+-- the read log has an entry of the stripe
+abbrev pub has-stripe : ℕ → List ReadMark → Bool
+has-stripe s rs = has-key (λ e. e .stripe) s rs
+
+-- words that are equal wherever the read log looks
+abbrev pub Same-read : SetUp → List ReadMark → List ℕ → List ℕ → Type 0
+Same-read u rs xs ys = (a : ℕ) → has-stripe (stripe-of u a) rs ≡ true → getD xs a 0 ≡ getD ys a 0
+
 -- the loads see only stripes of the read log: words that are equal there give the same loads
 abbrev pub Covered : SetUp → List ReadMark → Work → Type 0
-Covered u rs w = (xs ys : List ℕ)
-    → ((a : ℕ) → has-key (λ e. e .stripe) (stripe-of u a) rs ≡ true → getD xs a 0 ≡ getD ys a 0)
-    → loaded-on xs (w .calls) ≡ loaded-on ys (w .calls)
+Covered u rs w = (xs ys : List ℕ) → Same-read u rs xs ys → loaded-on xs (w .calls) ≡ loaded-on ys (w .calls)
 
 -- the thread owns the stripe of each address in its write log
 abbrev pub Owns-log : SetUp → (ℕ → ℕ) → ℕ → List WriteEntry → Type 0
@@ -134,6 +144,7 @@ pub record Lost-fits (w : Work) (f : Option Fall) : Type 0 where
   pub fall : Fall
   pub fallen : f ≡ Some fall
 
+-- a transaction, by the phase of its thread
 abbrev pub Phase-fits : SetUp → List ℕ → List Work → ℕ → (ℕ → Front) → (ℕ → ℕ) → ℕ → Thread → Work → Option Fall → Phase → Type 0
 Phase-fits u ws us base fs owner n t w f Idle = (s : ℕ) → owner s ≡ n → n ≡ 0
 Phase-fits u ws us base fs owner n t w f Running = Running-fits u ws us base fs owner n t w f
@@ -149,6 +160,19 @@ pub record Seat (u : SetUp) (ws : List ℕ) (us : List Work) (base : ℕ) (fs : 
   pub point : Point ws us (x .work)
   pub spared : Spared u us (x .work) (x .fall)
 
+-- a seat in a world and after a history, with these owners of the stripes
+abbrev pub Seated : List ℕ → ℕ → World → History → (ℕ → ℕ) → ℕ → Thread → Transaction → Type 0
+Seated ws base w h owner n t x = Seat (w .engine .set-up) ws (h .updaters) base (front (w .engine)) owner n t x
+
+-- a running transaction in a world and after a history, with these owners
+abbrev pub Runs-on : List ℕ → ℕ → World → History → (ℕ → ℕ) → ℕ → Thread → Work → Option Fall → Type 0
+Runs-on ws base w h owner n t x f = Running-fits (w .engine .set-up) ws (h .updaters) base (front (w .engine)) owner n t x f
+
+-- a read entry of a thread's latest transaction, at this snapshot end
+abbrev pub Marked : World → History → ℕ → ℕ → ReadMark → Type 0
+Marked w h n end e =
+    Mark-fits (w .engine .set-up) (h .updaters) n (h .present n .work .begun) end (front (w .engine) (e .stripe)) e
+
 -- an updater that has words to drain is the latest transaction of a sealed thread
 pub record Draining (st : State) (h : History) (k : ℕ) : Type 0 where
   pub thread : ℕ
@@ -157,6 +181,7 @@ pub record Draining (st : State) (h : History) (k : ℕ) : Type 0 where
   pub sealed : thread-of st thread .phase ≡ Sealed ticket drained
   pub numbered : h .present thread .work .number ≡ Some k
 
+-- an updater has drained all, or is at it
 abbrev pub Spent : State → History → ℕ → Type 0
 Spent st h k = (not-drained (updater (h .updaters) k) ≡ []) ⊎ Draining st h k
 
@@ -167,7 +192,7 @@ pub record Fits (ws : List ℕ) (base : ℕ) (w : World) (h : History) : Type 0 
   pub count : length (h .updaters) ≡ base + w .engine .clock
   pub stripes : (s : ℕ) → Stripe-fits (w .engine .set-up) (h .updaters) base (w .engine .clock) s (front (w .engine) s)
   pub words : (a : ℕ) → a < length (w .words) → Word-fits (w .engine .set-up) ws (h .updaters) (w .words) (front (w .engine)) a
-  pub seats : (n : ℕ) → Seat (w .engine .set-up) ws (h .updaters) base (front (w .engine)) (owner-of (w .engine)) n (thread-of (w .engine) n) (h .present n)
+  pub seats : (n : ℕ) → Seated ws base w h (owner-of (w .engine)) n (thread-of (w .engine) n) (h .present n)
   pub spent : (k : ℕ) → k < length (h .updaters) → Spent (w .engine) h k
   pub loads : (k : ℕ) → k < length (h .updaters) → Loads-at ws (h .updaters) k (updater (h .updaters) k)
   pub past-points : All (λ t. Point ws (h .updaters) (t .work)) (h .past)

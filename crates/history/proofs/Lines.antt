@@ -1,11 +1,10 @@
 -- A thread's latest transaction after a line.
 use Prim.Native.Nat.{ℕ}
-use lib.Dec.{eqb}
 use lib.ListN.{length}
-use mathlib.Core.Bool.{Bool, true, false}
-use mathlib.Core.Path.{_≡_, refl, ap, sym, subst}
+use mathlib.Core.Bool.{Bool}
+use mathlib.Core.Path.{_≡_, refl, ap, _∙_}
 use Rattle.common.specs.declared.loss.Loss.{Loss}
-use Rattle.history.specs.Record.{History, Line, Transaction, Fall, caller, deed, acted, watched, fallen, first-fall, or-else, told-loss, leads, after-line, took-part, shown-loss}
+use Rattle.history.specs.Record.{History, Line, Transaction, Fall, caller, deed, acted, watched, fallen, first-fall, or-else, told-loss, leads, after-line}
 use Rattle.layout.specs.declared.set_up.SetUp.{SetUp}
 use Rattle.std.proofs.shelf.Tests.{eq-eqb, ne-eqb}
 use Rattle.std.specs.declared.option.Option.{Option}
@@ -28,6 +27,18 @@ pub present-caller : (u : SetUp) (h : History) (l : Line) (n : ℕ) → n ≡ ca
     (or-else (told-loss (l .answer)) (l .losses n))
 present-caller u h l n e = rw (eq-eqb n (caller (l .call)) e) refl
 
+-- which has acted, if no loss is told or kept
+pub present-unlost : (u : SetUp) (h : History) (l : Line) → told-loss (l .answer) ≡ None → l .losses (caller (l .call)) ≡ None →
+    after-line u h l .present (caller (l .call))
+    ≡ acted (l .call) (length (h .updaters)) (watched (leads-at u l (caller (l .call))) (h .present (caller (l .call))))
+    (deed (l .call) (l .answer))
+present-unlost u h l told kept =
+    present-caller u h l (caller (l .call)) refl
+    ∙ ap (λ (o : Option Loss). fallen (length (h .updaters))
+    (acted (l .call) (length (h .updaters)) (watched (leads-at u l (caller (l .call))) (h .present (caller (l .call))))
+    (deed (l .call) (l .answer))) o)
+    (ap (λ (o : Option Loss). or-else o (l .losses (caller (l .call)))) told ∙ kept)
+
 -- a loss that is on record already changes nothing
 pub fallen-before : (m : ℕ) (t : Transaction) (o : Option Loss) (f : Fall) → t .fall ≡ Some f → fallen m t o ≡ t
 fallen-before m t None f e = refl
@@ -41,3 +52,10 @@ fallen-work m t (Some l) = go (t .fall)
     go : (f : Option Fall) → first-fall l m t f .work ≡ t .work
     go (Some f) = refl
     go None = refl
+
+-- the work of a transaction whose thread does not make the call is as it was
+pub work-other : (u : SetUp) (h : History) (l : Line) (n : ℕ) → (n ≡ caller (l .call) → ⊥) →
+    after-line u h l .present n .work ≡ h .present n .work
+work-other u h l n d =
+    ap (λ (y : Transaction). y .work) (present-other u h l n d)
+    ∙ fallen-work (length (h .updaters)) (watched (leads-at u l n) (h .present n)) (l .losses n)

@@ -1,32 +1,30 @@
 -- A new engine fits a history with no line.
-use Prim.Native.Nat.{ℕ, _<_}
-use lib.ListN.{length}
+use Prim.Native.Nat.{ℕ}
 use mathlib.Core.List.{List, []}
 use mathlib.Core.Path.{_≡_, refl, ap, sym, subst, _∙_, fun-ext}
 use native.Mathlib.Omega.{arith}
-use Rattle.history.proofs.Invariant.{Fits, Front, Stripe-fits, Word-fits, Seat, front, hold-of}
+use Rattle.history.proofs.Holders.{bare-fits, bare-front}
+use Rattle.history.proofs.Invariant.{Front, Seat, Stripe-fits, Word-fits, front, hold-of}
 use Rattle.history.proofs.Maps.{at-everywhere}
 use Rattle.history.proofs.Plan.{New-fits}
-use Rattle.history.specs.Law.{Point}
-use Rattle.history.specs.Record.{no-history, newborn, no-work}
+use Rattle.history.specs.Record.{newborn}
 use Rattle.layout.specs.declared.set_up.SetUp.{SetUp}
 use Rattle.rules.specs.Conflicts.{owner-of}
-use Rattle.rules.specs.NewEngine.{new-world, new-engine, new-thread, new-stripe}
-use Rattle.rules.specs.States.{Thread, Stripe, thread-of, stripe-at}
-use Rattle.std.specs.declared.option.Option.the-variants.{Some, None}
+use Rattle.rules.specs.NewEngine.{new-engine, new-thread, new-stripe}
+use Rattle.rules.specs.States.{Thread, Stripe}
 
-abbrev new-front : Front
-new-front = record { version = 0; hold = None }
-
-new-fronts : (u : SetUp) (s : ℕ) → front (new-engine u) s ≡ new-front
+-- its stripes are at version 0, and nobody holds them
+new-fronts : (u : SetUp) (s : ℕ) → front (new-engine u) s ≡ bare-front
 new-fronts u s = λ i. record {
   version = ap (λ (x : Stripe). x .version) (at-everywhere new-stripe s) i;
   hold = ap hold-of (at-everywhere new-thread (owner-of (new-engine u) s)) i;
 }
 
+-- nobody owns them either
 new-owner : (u : SetUp) (s : ℕ) → owner-of (new-engine u) s ≡ 0
 new-owner u s = ap (λ (x : Stripe). x .owner) (at-everywhere new-stripe s)
 
+-- every thread is idle, and has begun nothing
 new-seat : (u : SetUp) (ws : List ℕ) (n : ℕ) →
     Seat u ws [] 0 (front (new-engine u)) (owner-of (new-engine u)) n new-thread (newborn n 0)
 new-seat u ws n = record {
@@ -37,14 +35,14 @@ new-seat u ws n = record {
   spared = tt;
 }
 
+-- so the invariant holds of it
 pub new-fits : New-fits
 new-fits u ws = record {
   stored = refl;
   sized = refl;
   count = refl;
   stripes = λ s.
-      subst (λ (f : Front). Stripe-fits u [] 0 0 s f) (sym (new-fronts u s))
-      (record { rises = omega arith; by-clock = omega arith; untouched = λ k low high. absurd (omega arith) });
+      subst (λ (f : Front). Stripe-fits u [] 0 0 s f) (sym (new-fronts u s)) (bare-fits u [] s);
   words = λ a l. subst (λ (fs : ℕ → Front). Word-fits u ws [] ws fs a) (sym (fun-ext (new-fronts u))) refl;
   seats = λ n.
       subst (λ (t : Thread). Seat u ws [] 0 (front (new-engine u)) (owner-of (new-engine u)) n t (newborn n 0))

@@ -1,37 +1,25 @@
 -- What each call keeps, as statements; each is proved in the file that is named for its call.
-use Prim.Native.Nat.{ℕ, _+_, _<_, _≤_}
-use lib.ListN.{length, getD, set}
-use mathlib.Core.Bool.{Bool, true, false}
-use mathlib.Core.List.{List, [], _∷_, _++_}
+use Prim.Native.Nat.{ℕ}
+use mathlib.Core.List.{List}
 use mathlib.Core.Path.{_≡_}
-use Rattle.common.specs.declared.loss.Loss.{Loss}
-use Rattle.common.specs.declared.loss.Loss.the-variants.{Invalid}
-use Rattle.history.proofs.Growth.{Grows}
-use Rattle.history.proofs.Invariant.{Fits, front}
-use Rattle.history.specs.Law.{Holds, Excused, Loads-at, updater, words-at}
-use Rattle.history.specs.Record.{History, Work, after-line, called, caller, leads, no-history}
+use Rattle.history.proofs.Invariant.{Fits}
+use Rattle.history.specs.Law.{Holds}
+use Rattle.history.specs.Record.{History, after-line, no-history}
 use Rattle.history.specs.Runs.{line-of}
-use Rattle.history.specs.Serial.{kept, put-in, serial-run, write-log}
-use Rattle.layout.specs.Lookups.{first-with}
-use Rattle.layout.specs.SetUps.{stripe-of}
 use Rattle.layout.specs.declared.set_up.SetUp.{SetUp}
 use Rattle.rules.specs.Back.{back}
 use Rattle.rules.specs.Begin.{begin}
 use Rattle.rules.specs.Calls.{perform}
-use Rattle.rules.specs.Conflicts.{first-invalid}
 use Rattle.rules.specs.Drain.{drain}
 use Rattle.rules.specs.Load.{load}
-use Rattle.rules.specs.Maps.{Map, at}
 use Rattle.rules.specs.NewEngine.{new-world}
-use Rattle.rules.specs.Outcomes.{Outcome, Table, lost}
+use Rattle.rules.specs.Outcomes.{Outcome, Table}
 use Rattle.rules.specs.Roll.{roll}
 use Rattle.rules.specs.Seal.{seal}
-use Rattle.rules.specs.States.{World, Thread, thread-of, stripe-at}
+use Rattle.rules.specs.States.{World}
 use Rattle.rules.specs.Store.{store}
 use Rattle.rules.specs.declared.call.Call.{Call}
 use Rattle.rules.specs.declared.call.Call.the-variants.{Begin, Load, Store, Seal, Drain, Back, Roll}
-use Rattle.rules.specs.declared.phase.Phase.the-variants.{Running, Lost}
-use Rattle.std.specs.declared.option.Option.the-variants.{Some, None}
 
 -- the history with the line of a call that had this outcome
 abbrev pub then : World → History → Table → Call → Outcome → History
@@ -42,29 +30,36 @@ pub record Kept (ws : List ℕ) (base : ℕ) (w : World) (h : History) (beats : 
   pub fits : Fits ws base (o .after) (then w h beats c o)
   pub same-set-up : o .after .engine .set-up ≡ w .engine .set-up
 
+-- a new engine
 abbrev pub New-fits : Type 0
 New-fits = (u : SetUp) (ws : List ℕ) → Fits ws 0 (new-world u ws) (no-history ws)
 
+-- a begin
 abbrev pub Begin-keeps : Type 0
 Begin-keeps = (ws : List ℕ) (base : ℕ) (w : World) (h : History) (beats : Table) (n : ℕ) →
     Fits ws base w h → Kept ws base w h beats (Begin n) (begin w n)
 
+-- a load
 abbrev pub Load-keeps : Type 0
 Load-keeps = (ws : List ℕ) (base : ℕ) (w : World) (h : History) (beats : Table) (n a : ℕ) →
     Fits ws base w h → Kept ws base w h beats (Load n a) (load beats w n a)
 
+-- a store
 abbrev pub Store-keeps : Type 0
 Store-keeps = (ws : List ℕ) (base : ℕ) (w : World) (h : History) (beats : Table) (n a v : ℕ) →
     Fits ws base w h → Kept ws base w h beats (Store n a v) (store beats w n a v)
 
+-- a seal
 abbrev pub Seal-keeps : Type 0
 Seal-keeps = (ws : List ℕ) (base : ℕ) (w : World) (h : History) (beats : Table) (n : ℕ) →
     Fits ws base w h → Kept ws base w h beats (Seal n) (seal w n)
 
+-- a drain
 abbrev pub Drain-keeps : Type 0
 Drain-keeps = (ws : List ℕ) (base : ℕ) (w : World) (h : History) (beats : Table) (n : ℕ) →
     Fits ws base w h → Kept ws base w h beats (Drain n) (drain w n)
 
+-- a back
 abbrev pub Back-keeps : Type 0
 Back-keeps = (ws : List ℕ) (base : ℕ) (w : World) (h : History) (beats : Table) (n : ℕ) →
     Fits ws base w h → Kept ws base w h beats (Back n) (back w n)
@@ -82,60 +77,3 @@ Call-keeps = (ws : List ℕ) (base : ℕ) (w : World) (h : History) (beats : Tab
 -- the law follows from what the calls keep
 abbrev pub Fits-holds : Type 0
 Fits-holds = (ws : List ℕ) (base : ℕ) (w : World) (h : History) → Fits ws base w h → Holds (w .engine .set-up) ws h
-
--- the calls that lose a running transaction: only its thread changed, and a leader is excused. Load, store and seal
--- share this
-abbrev pub Lost-keeps : Type 0
-Lost-keeps = (ws : List ℕ) (base : ℕ) (w : World) (h : History) (beats : Table) (c : Call) (l : Loss) (m : Bool) (ts : Map Thread) →
-    Fits ws base w h →
-    thread-of (w .engine) (caller c) .phase ≡ Running →
-    at ts (caller c) .phase ≡ Lost l →
-    ((k : ℕ) → (k ≡ caller c → ⊥) → at ts k ≡ thread-of (w .engine) k) →
-    (leads beats (caller c) (w .engine .set-up .threads) ≡ true →
-    Excused (w .engine .set-up) (h .updaters) (h .present (caller c) .work) (length (h .updaters)) l) →
-    Kept ws base w h beats c
-    (lost w l (record { set-up = w .engine .set-up; clock = w .engine .clock; mark = m; stripes = w .engine .stripes; threads = ts }))
-
--- a leader beats each other thread of the set-up, and none beats it
-abbrev pub Leader-beats : Type 0
-Leader-beats = (beats : Table) (n m t : ℕ) → leads beats n t ≡ true → 1 ≤ m → m ≤ t → (m ≡ n → ⊥) →
-    (beats n m ≡ true) × (beats m n ≡ false)
-
--- a read log with no invalid entry: each entry is as it was read, so the loads agree at the present moment too
-abbrev pub Refresh-agrees : Type 0
-Refresh-agrees = (ws : List ℕ) (base : ℕ) (w : World) (h : History) (n : ℕ) → Fits ws base w h →
-    thread-of (w .engine) n .phase ≡ Running →
-    first-invalid (w .engine) n (thread-of (w .engine) n .reads) ≡ None →
-    Loads-at ws (h .updaters) (length (h .updaters)) (h .present n .work)
-
--- the first invalid entry of a read log was overtaken, which excuses a leader
-abbrev pub Invalid-excuses : Type 0
-Invalid-excuses = (ws : List ℕ) (base : ℕ) (w : World) (h : History) (n s : ℕ) → Fits ws base w h →
-    thread-of (w .engine) n .phase ≡ Running →
-    first-invalid (w .engine) n (thread-of (w .engine) n .reads) ≡ Some s →
-    Excused (w .engine .set-up) (h .updaters) (h .present n .work) (length (h .updaters)) (Invalid s)
-
--- the stored word of a stripe that no sealed thread holds, at a snapshot end that its version does not pass
-abbrev pub Free-word-agrees : Type 0
-Free-word-agrees = (ws : List ℕ) (base : ℕ) (w : World) (h : History) (a m : ℕ) → Fits ws base w h →
-    a < length (w .words) →
-    front (w .engine) (stripe-of (w .engine .set-up) a) .hold ≡ None →
-    base + stripe-at (w .engine) (stripe-of (w .engine .set-up) a) .version ≤ m → m ≤ length (h .updaters) →
-    getD (words-at ws (h .updaters) m) a 0 ≡ getD (w .words) a 0
-
--- one more updater, and an updater that drains once more: both only grow the updaters
-abbrev pub Push-grows : Type 0
-Push-grows = (ws : List ℕ) (us : List Work) (w : Work) → Grows ws us (us ++ w ∷ [])
-
-abbrev pub Drain-grows : Type 0
-Drain-grows = (ws : List ℕ) (us : List Work) (k n : ℕ) → k < length us → Grows ws us (set us k (called (Drain n) (updater us k)))
-
--- the serial run with one more updater, at one address
-abbrev pub Sealed-word : Type 0
-Sealed-word = (ws : List ℕ) (us : List Work) (w : Work) (a : ℕ) → a < length (serial-run ws us) →
-    getD (serial-run ws (us ++ w ∷ [])) a 0 ≡ getD (put-in (serial-run ws us) (write-log (w .calls))) a 0
-
--- what the write log finds for an address is the latest kept word
-abbrev pub Log-finds-kept : Type 0
-Log-finds-kept = (cs : List Call) (a : ℕ) →
-    first-with (λ e. e .address) a (write-log cs) ≡ first-with (λ e. e .address) a (kept cs)

@@ -4,7 +4,7 @@ use lib.ListN.{take}
 use mathlib.Core.List.{List, [], _∷_}
 use mathlib.Core.Path.{_≡_, refl, sym, ap, subst, _∙_}
 use Rattle.contention.specs.Events.{Event, after-events}
-use Rattle.history.proofs.Whole.{lawful}
+use Rattle.history.proofs.Induction.{lawful}
 use Rattle.history.specs.Law.{Law}
 use Rattle.history.specs.Record.{Line}
 use Rattle.history.specs.Runs.{Asked, line-of, recorded-from}
@@ -16,6 +16,7 @@ use Rattle.rules.specs.Outcomes.{Table}
 use Rattle.rules.specs.States.{World}
 use Rattle.rules.specs.declared.call.Call.{Call}
 
+-- the first lines of a record are the record of the first calls
 take-recorded : (n : ℕ) (w : World) (qs : List Asked) → take n (recorded-from w qs) ≡ recorded-from w (take n qs)
 take-recorded zero w qs = refl
 take-recorded (suc n) w [] = refl
@@ -31,6 +32,7 @@ module _ {P : Type 0} (table : P → Table) (moved : P → Event → P) where
       record { table = table p; call = c } ∷
       asked (perform (table p) w c .after) (after-events moved p (perform (table p) w c .told)) cs
 
+  -- the lines of a run are the record of its calls
   lines-recorded : (w : World) (p : P) (cs : List Call) → run-from table moved w p cs .lines ≡ recorded-from w (asked w p cs)
   unfolding asked
   lines-recorded w p [] = refl
@@ -38,6 +40,7 @@ module _ {P : Type 0} (table : P → Table) (moved : P → Event → P) where
       ap (λ ls. line-of (table p) c (perform (table p) w c) ∷ ls)
       (lines-recorded (perform (table p) w c .after) (after-events moved p (perform (table p) w c .told)) cs)
 
+  -- every beginning of the record of a run keeps the law
   pub beginnings-are-lawful : (u : SetUp) (ws : List ℕ) (p : P) (cs : List Call) (n : ℕ) →
       Law u ws (take n (run-of table moved u ws p cs .lines))
   beginnings-are-lawful u ws p cs n =

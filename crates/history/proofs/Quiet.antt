@@ -3,13 +3,13 @@ use Prim.Native.Nat.{ℕ, _<_}
 use lib.ListN.{length}
 use mathlib.Core.Bool.{Bool}
 use mathlib.Core.List.{List, []}
-use mathlib.Core.Logic.{_⊎_, inl, inr}
+use mathlib.Core.Logic.{inl, inr}
 use mathlib.Core.Path.{_≡_, refl, ap, sym, subst, _∙_, fun-ext}
 use Rattle.contention.specs.Events.{Event}
-use Rattle.history.proofs.Invariant.{Fits, Front, front, Stripe-fits, Word-fits, Seat, Draining, Spent}
+use Rattle.history.proofs.Invariant.{Draining, Fits, Front, Seat, Seated, Spent, Stripe-fits, Word-fits, front}
 use Rattle.history.proofs.Plan.{Kept, then}
 use Rattle.history.specs.Law.{updater, Loads-at, Point, Spared}
-use Rattle.history.specs.Record.{History, Transaction, Work}
+use Rattle.history.specs.Record.{History, Work}
 use Rattle.history.specs.Serial.{not-drained}
 use Rattle.layout.specs.declared.set_up.SetUp.{SetUp}
 use Rattle.rules.specs.Conflicts.{owner-of}
@@ -24,6 +24,7 @@ use Rattle.std.specs.shelf.Lists.{All}
 abbrev pub quiet-state : State → Bool → Map Stripe → Map Thread → State
 quiet-state st m ss ts = record { set-up = st .set-up; clock = st .clock; mark = m; stripes = ss; threads = ts }
 
+-- the outcome of a call that leaves the words
 abbrev pub quiet-outcome : World → Answer → List Event → State → Outcome
 quiet-outcome w a es st = record { answer = a; told = es; after = over w st }
 
@@ -31,11 +32,12 @@ quiet-outcome w a es st = record { answer = a; told = es; after = over w st }
 pub record Quiet (ws : List ℕ) (base : ℕ) (w : World) (h : History) (st : State) (g : History) : Type 0 where
   pub fronts : (s : ℕ) → front st s ≡ front (w .engine) s
   pub updaters : g .updaters ≡ h .updaters
-  pub seats : (n : ℕ) → Seat (w .engine .set-up) ws (h .updaters) base (front (w .engine)) (owner-of st) n (thread-of st n) (g .present n)
+  pub seats : (n : ℕ) → Seated ws base w h (owner-of st) n (thread-of st n) (g .present n)
   pub drains : (k : ℕ) → Draining (w .engine) h k → Draining st g k
   pub past-points : All (λ t. Point ws (h .updaters) (t .work)) (g .past)
   pub past-spared : All (λ t. Spared (w .engine .set-up) (h .updaters) (t .work) (t .fall)) (g .past)
 
+-- a quiet call keeps the invariant, once that is shown
 pub quiet-keeps : (ws : List ℕ) (base : ℕ) (w : World) (h : History) (beats : Table) (c : Call) (a : Answer) (es : List Event)
     (m : Bool) (ss : Map Stripe) (ts : Map Thread) → Fits ws base w h →
     Quiet ws base w h (quiet-state (w .engine) m ss ts) (then w h beats c (quiet-outcome w a es (quiet-state (w .engine) m ss ts))) →

@@ -1,5 +1,5 @@
 -- What a read log says of the words at other moments.
-use Prim.Native.Nat.{ℕ, zero, suc, _+_, _<_, _≤_}
+use Prim.Native.Nat.{ℕ, _+_, _<_, _≤_}
 use lib.Dec.{eqb}
 use lib.ListN.{length, getD}
 use mathlib.Core.Bool.{Bool, true, false, cond, not}
@@ -7,55 +7,24 @@ use mathlib.Core.List.{List, [], _∷_}
 use mathlib.Core.Logic.{_⊎_, inl, inr}
 use mathlib.Core.Path.{_≡_, refl, ap, sym, subst, _∙_}
 use native.Mathlib.Omega.{arith}
-use Rattle.history.proofs.Holders.{free-hold, held-none-free}
-use Rattle.history.proofs.Invariant.{Fits, Hold, Mark-fits, Overtaken, front, left-of, stores-in, top, top-of}
-use Rattle.history.proofs.KeyedEntries.{all-both, keyed}
-use Rattle.history.proofs.Plan.{Free-word-agrees, Refresh-agrees, Invalid-excuses}
-use Rattle.history.proofs.Running.{running-fits}
-use Rattle.history.specs.Law.{updater, words-at}
+use Rattle.common.specs.declared.loss.Loss.the-variants.{Invalid}
+use Rattle.history.proofs.Holders.{free-not-busy, free-word-stored, not-busy-free}
+use Rattle.history.proofs.Invariant.{Fits, Marked, Overtaken, front, top, top-of}
+use Rattle.history.proofs.KeyedEntries.{all-both, entry-with-key}
+use Rattle.history.proofs.Phases.{running-fits}
+use Rattle.history.proofs.SerialRuns.{since-moment}
+use Rattle.history.specs.Law.{Excused, Loads-at, words-at}
 use Rattle.history.specs.Record.{History, Work}
-use Rattle.history.specs.Serial.{kept, loaded-on, moved-into, serial-run, put-in}
-use Rattle.layout.specs.Lookups.{has-key}
+use Rattle.history.specs.Serial.{loaded-on, serial-run}
 use Rattle.layout.specs.SetUps.{stripe-of}
-use Rattle.layout.specs.declared.entries.WriteEntry.{WriteEntry}
-use Rattle.layout.specs.declared.set_up.SetUp.{SetUp}
 use Rattle.rules.specs.Conflicts.{busy, first-invalid, is-valid}
 use Rattle.rules.specs.States.{State, World, ReadMark, thread-of, stripe-at}
 use Rattle.rules.specs.declared.phase.Phase.the-variants.{Running}
 use Rattle.std.proofs.shelf.Elements.{all-weaker}
-use Rattle.std.proofs.shelf.Lists.{getD-set-other, take-all}
-use Rattle.std.proofs.shelf.Tests.{and-parts, eq-eqb, eqb-false, eqb-true, and-from, both-ways, not-true, not-from-false, or-parts}
+use Rattle.std.proofs.shelf.Lists.{take-all}
+use Rattle.std.proofs.shelf.Tests.{and-parts, eq-eqb, eqb-true, and-from, both-ways, not-true, not-from-false}
 use Rattle.std.specs.declared.option.Option.the-variants.{Some, None}
-use Rattle.std.specs.declared.option.Option.{Option}
 use Rattle.std.specs.shelf.Lists.{All}
-
-module _ (u : SetUp) (s a : ℕ) (here : stripe-of u a ≡ s) where
-  -- entries of other stripes that are moved in leave a word as it is
-  moved-elsewhere : (ws : List ℕ) (es : List WriteEntry) → has-key (λ e. stripe-of u (e .address)) s es ≡ false →
-      getD (moved-into ws es) a 0 ≡ getD ws a 0
-  moved-elsewhere ws [] k = refl
-  moved-elsewhere ws (x ∷ xs) k =
-      let p = or-parts (eqb (stripe-of u (x .address)) s) (has-key (λ (y : WriteEntry). stripe-of u (y .address)) s xs) k in
-      getD-set-other (moved-into ws xs) (x .address) a (x .word) 0
-      (λ q. eqb-false (stripe-of u (x .address)) s (p .0) (ap (stripe-of u) (sym q) ∙ here))
-      ∙ moved-elsewhere ws xs (p .1)
-
-  -- and so do updaters of which none stored in its stripe
-  run-elsewhere : (ws : List ℕ) (us : List Work) → ((k : ℕ) → k < length us → stores-in u s (updater us k) ≡ false) →
-      getD (serial-run ws us) a 0 ≡ getD ws a 0
-  run-elsewhere ws [] none = refl
-  run-elsewhere ws (w ∷ us) none =
-      run-elsewhere (moved-into ws (kept (w .calls))) us (λ k l. none (suc k) (omega arith))
-      ∙ moved-elsewhere ws (kept (w .calls)) (none 0 (omega arith))
-
-  -- so a word is what it was at a moment since which no updater stored in its stripe
-  since-moment : (ws : List ℕ) (us : List Work) (m : ℕ) →
-      ((k : ℕ) → m ≤ k → k < length us → stores-in u s (updater us k) ≡ false) →
-      getD (serial-run ws us) a 0 ≡ getD (words-at ws us m) a 0
-  since-moment ws us zero none = run-elsewhere ws us (λ k l. none k (omega arith) l)
-  since-moment ws [] (suc m) none = refl
-  since-moment ws (w ∷ us) (suc m) none =
-      since-moment (moved-into ws (kept (w .calls))) us m (λ k low high. none (suc k) (omega arith) (omega arith))
 
 module _ (ws : List ℕ) (base : ℕ) (w : World) (h : History) (f : Fits ws base w h) where
   -- the words of a stripe that is not held are those of every moment from its version on
@@ -67,16 +36,13 @@ module _ (ws : List ℕ) (base : ℕ) (w : World) (h : History) (f : Fits ws bas
       since-moment (w .engine .set-up) s a here ws (h .updaters) m
       (λ k from high. f .stripes s .untouched k (omega (arith, e, low, from)) high)
 
-  -- the stored word of such a stripe is the serial run's
-  word-stored : (a : ℕ) → a < length (w .words) → front (w .engine) (stripe-of (w .engine .set-up) a) .hold ≡ None →
-      getD (serial-run ws (h .updaters)) a 0 ≡ getD (w .words) a 0
-  word-stored a l free =
-      f .words a l ∙ ap (λ (x : Option Hold). getD (put-in (w .words) (left-of x)) a 0) free
-
 -- the stored word of such a stripe is what a transaction loads at a moment from its version on
-pub free-word-agrees : Free-word-agrees
-free-word-agrees ws base w h a m f l free low high =
-    sym (word-stays ws base w h f (stripe-of (w .engine .set-up) a) a m refl free low) ∙ word-stored ws base w h f a l free
+pub free-word-agrees : (ws : List ℕ) (base : ℕ) (w : World) (h : History) (a m : ℕ) → Fits ws base w h → a < length (w .words) →
+    front (w .engine) (stripe-of (w .engine .set-up) a) .hold ≡ None →
+    base + stripe-at (w .engine) (stripe-of (w .engine .set-up) a) .version ≤ m →
+    getD (words-at ws (h .updaters) m) a 0 ≡ getD (w .words) a 0
+free-word-agrees ws base w h a m f l free low =
+    sym (word-stays ws base w h f (stripe-of (w .engine .set-up) a) a m refl free low) ∙ free-word-stored f a l free
 
 -- a read log with no invalid entry has only valid ones
 valid-entries : (st : State) (n : ℕ) (es : List ReadMark) → first-invalid st n es ≡ None → All (λ e. is-valid st n e ≡ true) es
@@ -111,7 +77,7 @@ module _ (ws : List ℕ) (base : ℕ) (w : World) (h : History) (n : ℕ) (f : F
       let p = and-parts (eqb (stripe-at (w .engine) (e .stripe) .version) (e .version)) (not (busy (w .engine) n (e .stripe))) valid in
       let v = eqb-true (stripe-at (w .engine) (e .stripe) .version) (e .version) (p .0) in
       word-stays ws base w h f (e .stripe) a (base + thread-of (w .engine) n .snapshot) (sym here)
-      (free-hold ws base w h n (e .stripe) f run (not-true (busy (w .engine) n (e .stripe)) (p .1)))
+      (not-busy-free ws base w h n (e .stripe) f run (not-true (busy (w .engine) n (e .stripe)) (p .1)))
       (omega (arith, v, old))
 
   -- so with valid entries only the loads agree at the present moment
@@ -121,10 +87,11 @@ module _ (ws : List ℕ) (base : ℕ) (w : World) (h : History) (n : ℕ) (f : F
   present-loads : All (λ e. is-valid (w .engine) n e ≡ true) (thread-of (w .engine) n .reads) →
       loaded-on (serial-run ws (h .updaters)) (h .present n .work .calls) ≡ h .present n .work .loaded
   present-loads valid =
-      running-fits ws base w h n f run .covered
+      running-fits (f .seats n) run .covered
       (serial-run ws (h .updaters)) (words-at ws (h .updaters) (base + thread-of (w .engine) n .snapshot))
-      (λ a has. agrees a (keyed (λ (e : ReadMark). e .stripe) (stripe-of (w .engine .set-up) a) Valid-old (thread-of (w .engine) n .reads) old has))
-      ∙ running-fits ws base w h n f run .loads
+      (λ a has. agrees a
+      (entry-with-key (λ (e : ReadMark). e .stripe) (stripe-of (w .engine .set-up) a) Valid-old (thread-of (w .engine) n .reads) old has))
+      ∙ running-fits (f .seats n) run .loads
     where
       agrees : (a : ℕ) → (e : ReadMark) × (e .stripe ≡ stripe-of (w .engine .set-up) a) × Valid-old e →
           getD (serial-run ws (h .updaters)) a 0 ≡ getD (words-at ws (h .updaters) (base + thread-of (w .engine) n .snapshot)) a 0
@@ -132,12 +99,13 @@ module _ (ws : List ℕ) (base : ℕ) (w : World) (h : History) (n : ℕ) (f : F
 
       old : All Valid-old (thread-of (w .engine) n .reads)
       old =
-          all-both (λ e. is-valid (w .engine) n e ≡ true) (λ e. e .version ≤ thread-of (w .engine) n .snapshot) (thread-of (w .engine) n .reads) valid
-          (all-weaker _ _ (λ e m. m .old) (thread-of (w .engine) n .reads) (running-fits ws base w h n f run .marks))
+          all-both (λ e. is-valid (w .engine) n e ≡ true) (λ e. e .version ≤ thread-of (w .engine) n .snapshot)
+          (thread-of (w .engine) n .reads) valid
+          (all-weaker _ _ (λ e m. m .old) (thread-of (w .engine) n .reads) (running-fits (f .seats n) run .marks))
 
   -- an entry that is no longer as it was read was overtaken
   invalid-overtaken : (e : ReadMark) → is-valid (w .engine) n e ≡ false →
-      Mark-fits (w .engine .set-up) (h .updaters) n (h .present n .work .begun) (thread-of (w .engine) n .snapshot) (front (w .engine) (e .stripe)) e →
+      Marked w h n (thread-of (w .engine) n .snapshot) e →
       Overtaken (w .engine .set-up) (h .updaters) n (h .present n .work .begun) (e .stripe)
   invalid-overtaken e bad m = go (m .state)
     where
@@ -147,21 +115,26 @@ module _ (ws : List ℕ) (base : ℕ) (w : World) (h : History) (n : ℕ) (f : F
       go (inl x) = absurd (both-ways (is-valid (w .engine) n e) bad
           (and-from (eqb (stripe-at (w .engine) (e .stripe) .version) (e .version)) (not (busy (w .engine) n (e .stripe)))
           (eq-eqb (stripe-at (w .engine) (e .stripe) .version) (e .version) (x .0))
-          (not-from-false (busy (w .engine) n (e .stripe)) (held-none-free (w .engine) n (e .stripe) (x .1)))))
+          (not-from-false (busy (w .engine) n (e .stripe)) (free-not-busy (w .engine) n (e .stripe) (x .1)))))
       go (inr x) = x
 
 -- a read log with no invalid entry lets the snapshot end be the present moment
-pub refresh-agrees : Refresh-agrees
+pub refresh-agrees : (ws : List ℕ) (base : ℕ) (w : World) (h : History) (n : ℕ) → Fits ws base w h →
+    thread-of (w .engine) n .phase ≡ Running → first-invalid (w .engine) n (thread-of (w .engine) n .reads) ≡ None →
+    Loads-at ws (h .updaters) (length (h .updaters)) (h .present n .work)
 refresh-agrees ws base w h n f run none =
-    ap (λ (us : List Work). loaded-on (serial-run ws us) (h .present n .work .calls)) (take-all (length (h .updaters)) (h .updaters) (omega arith))
+    ap (λ (us : List Work). loaded-on (serial-run ws us) (h .present n .work .calls))
+    (take-all (length (h .updaters)) (h .updaters) (omega arith))
     ∙ present-loads ws base w h n f run (valid-entries (w .engine) n (thread-of (w .engine) n .reads) none)
 
 -- and one with an invalid entry excuses a leader's loss
-pub invalid-excuses : Invalid-excuses
+pub invalid-excuses : (ws : List ℕ) (base : ℕ) (w : World) (h : History) (n s : ℕ) → Fits ws base w h →
+    thread-of (w .engine) n .phase ≡ Running → first-invalid (w .engine) n (thread-of (w .engine) n .reads) ≡ Some s →
+    Excused (w .engine .set-up) (h .updaters) (h .present n .work) (length (h .updaters)) (Invalid s)
 invalid-excuses ws base w h n s f run some =
-    let x = invalid-entry (w .engine) n s
-    (λ e. Mark-fits (w .engine .set-up) (h .updaters) n (h .present n .work .begun) (thread-of (w .engine) n .snapshot) (front (w .engine) (e .stripe)) e)
-    (thread-of (w .engine) n .reads) (running-fits ws base w h n f run .marks) some in
+    let x =
+    invalid-entry (w .engine) n s (Marked w h n (thread-of (w .engine) n .snapshot)) (thread-of (w .engine) n .reads)
+    (running-fits (f .seats n) run .marks) some in
     subst (λ (t : ℕ). Overtaken (w .engine .set-up) (h .updaters) t (h .present n .work .begun) s) (sym (f .seats n .named))
     (subst (λ (t : ℕ). Overtaken (w .engine .set-up) (h .updaters) n (h .present n .work .begun) t) (x .1)
     (invalid-overtaken ws base w h n f run (x .0) (x .2) (x .3)))

@@ -1,25 +1,22 @@
 -- What a roll keeps.
 use Prim.Native.Nat.{ℕ, zero, suc, _<_, _≤_}
-use lib.Dec.{leb}
-use lib.ListN.{length, getD}
+use lib.ListN.{length}
 use mathlib.Core.Bool.{Bool, true, false}
 use mathlib.Core.List.{List, []}
 use mathlib.Core.Logic.{_⊎_, inl, inr}
 use mathlib.Core.Path.{_≡_, refl, ap, sym, subst, _∙_, fun-ext}
 use native.Mathlib.Omega.{arith}
 use Rattle.common.specs.declared.refusal.Refusal.the-variants.{RollNotDue, ThreadsActive}
-use Rattle.history.proofs.Alone.{free-not-sealed}
-use Rattle.history.proofs.Fronts.{hold-none}
-use Rattle.history.proofs.Invariant.{Fits, Front, Phase-fits, Seat, Spent, Stripe-fits, Word-fits, front, hold-of, left-of}
+use Rattle.history.proofs.Holders.{bare-fits, bare-front, free-by-phase, free-not-draining, free-word-stored}
+use Rattle.history.proofs.Invariant.{Fits, Front, Phase-fits, Seat, Spent, Stripe-fits, Word-fits, front, hold-of}
 use Rattle.history.proofs.Lines.{leads-at, present-caller}
 use Rattle.history.proofs.Maps.{at-each}
-use Rattle.history.proofs.Phases.{fits-idle, idle-phase}
+use Rattle.history.proofs.Phases.{idle-fits, idle-phase, thread-bounds}
 use Rattle.history.proofs.Plan.{Kept, Roll-keeps, then}
 use Rattle.history.proofs.Refusals.{refused-keeps}
-use Rattle.history.proofs.Seats.{seat-other, seat-watched}
+use Rattle.history.proofs.Seats.{seat-watched, seats-after}
 use Rattle.history.specs.Record.{History, Line, Transaction}
 use Rattle.history.specs.Runs.{line-of}
-use Rattle.history.specs.Serial.{put-in}
 use Rattle.layout.specs.SetUps.{stripe-of}
 use Rattle.rules.specs.Admission.{is-idle, is-thread}
 use Rattle.rules.specs.Conflicts.{owner-of}
@@ -30,7 +27,7 @@ use Rattle.rules.specs.declared.answer.Answer.the-variants.{Done}
 use Rattle.rules.specs.declared.call.Call.the-variants.{Roll}
 use Rattle.rules.specs.declared.phase.Phase.{Phase}
 use Rattle.rules.specs.declared.phase.Phase.the-variants.{Idle}
-use Rattle.std.proofs.shelf.Tests.{and-parts, cases-bool, cases-eq, cases-order, leb-true}
+use Rattle.std.proofs.shelf.Tests.{and-parts, cases-bool, cases-order}
 use Rattle.std.specs.declared.option.Option.the-variants.{None}
 
 -- where the threads up to a number are idle, each of them is
@@ -47,10 +44,6 @@ idle-each st (suc t) n e low high = go (λ l. idle-each st t n (parts .1) low l)
     go before (inr (inl l)) = before (omega arith)
     go before (inr (inr l)) = absurd (omega arith)
 
--- a stripe at version 0 that no sealed thread holds
-abbrev rolled-front : Front
-rolled-front = record { version = 0; hold = None }
-
 module _ (ws : List ℕ) (base : ℕ) (w : World) (h : History) (beats : Table) (f : Fits ws base w h)
     (idle : idle-to (w .engine) (w .engine .set-up .threads) ≡ true) where
   -- the line of the roll, and the history with it
@@ -66,19 +59,19 @@ module _ (ws : List ℕ) (base : ℕ) (w : World) (h : History) (beats : Table) 
     where
       go : (is-thread (w .engine .set-up) n ≡ true) ⊎ (is-thread (w .engine .set-up) n ≡ false) → thread-of (w .engine) n .phase ≡ Idle
       go (inl e) =
-          let p = and-parts (leb 1 n) (leb n (w .engine .set-up .threads)) e in
-          idle-each (w .engine) (w .engine .set-up .threads) n idle (leb-true 1 n (p .0)) (leb-true n (w .engine .set-up .threads) (p .1))
+          let b = thread-bounds (w .engine .set-up) n e in
+          idle-each (w .engine) (w .engine .set-up .threads) n idle (b .0) (b .1)
       go (inr e) = f .seats n .inside e
 
   -- so no thread holds anything
   all-free : (n : ℕ) → hold-of (thread-of (w .engine) n) ≡ None
-  all-free n = hold-none (thread-of (w .engine) n) Idle (all-idle n) refl
+  all-free n = free-by-phase (thread-of (w .engine) n) Idle (all-idle n) refl
 
   -- stripes have the owners that they had, and show version 0
   rolled-owner : (s : ℕ) → owner-of (rolled (w .engine)) s ≡ owner-of (w .engine) s
   rolled-owner s = ap (λ (x : Stripe). x .owner) (at-each rolled-stripe (w .engine .stripes) s)
 
-  rolled-fronts : (s : ℕ) → front (rolled (w .engine)) s ≡ rolled-front
+  rolled-fronts : (s : ℕ) → front (rolled (w .engine)) s ≡ bare-front
   rolled-fronts s = λ i. record {
     version = ap (λ (x : Stripe). x .version) (at-each rolled-stripe (w .engine .stripes) s) i;
     hold = all-free (owner-of (rolled (w .engine)) s) i;
@@ -86,46 +79,41 @@ module _ (ws : List ℕ) (base : ℕ) (w : World) (h : History) (beats : Table) 
 
   -- a thread's seat after the roll
   abbrev Rolled-seat : ℕ → Transaction → Type 0
-  Rolled-seat n x = Seat (w .engine .set-up) ws (h .updaters) (length (h .updaters)) (front (rolled (w .engine))) (owner-of (rolled (w .engine))) n (thread-of (w .engine) n) x
+  Rolled-seat n x =
+      Seat (w .engine .set-up) ws (h .updaters) (length (h .updaters)) (front (rolled (w .engine))) (owner-of (rolled (w .engine))) n
+      (thread-of (w .engine) n) x
 
   -- an idle thread's seat does not depend on the moment of the last roll
-  rolled-idle-seat : (n : ℕ) →
-      Rolled-seat n (h .present n)
+  rolled-idle-seat : (n : ℕ) → Rolled-seat n (h .present n)
   rolled-idle-seat n = record {
     named = f .seats n .named;
     inside = f .seats n .inside;
     phase =
-        subst (λ (p : Phase). Phase-fits (w .engine .set-up) ws (h .updaters) (length (h .updaters)) (front (rolled (w .engine))) (owner-of (rolled (w .engine))) n (thread-of (w .engine) n) (h .present n .work) (h .present n .fall) p)
-        (sym (all-idle n))
-        (λ s e.
-        fits-idle (w .engine .set-up) ws (h .updaters) base (front (w .engine)) (owner-of (w .engine)) n (thread-of (w .engine) n)
-        (h .present n .work) (h .present n .fall) (thread-of (w .engine) n .phase) (all-idle n) (f .seats n .phase) s (sym (rolled-owner s) ∙ e));
+        subst (λ (p : Phase). Phase-fits (w .engine .set-up) ws (h .updaters) (length (h .updaters)) (front (rolled (w .engine)))
+        (owner-of (rolled (w .engine))) n (thread-of (w .engine) n) (h .present n .work) (h .present n .fall) p)
+        (sym (all-idle n)) (λ s e. idle-fits (f .seats n) (all-idle n) s (sym (rolled-owner s) ∙ e));
     point = f .seats n .point;
     spared = f .seats n .spared;
   }
 
   -- the roll does nothing to any transaction
-  rolled-seat : (n : ℕ) → (n ≡ 0) ⊎ (n ≡ 0 → ⊥) →
-      Rolled-seat n (rolled-history .present n)
-  rolled-seat n (inl e) =
-      subst (λ (y : Transaction). Rolled-seat n y)
-      (sym (present-caller (w .engine .set-up) h rolled-line n e))
-      (seat-watched (w .engine .set-up) ws (h .updaters) (length (h .updaters)) (front (rolled (w .engine))) (owner-of (rolled (w .engine))) n (thread-of (w .engine) n)
-      (length (h .updaters)) (leads-at (w .engine .set-up) rolled-line n) (h .present n) (rolled-idle-seat n))
-  rolled-seat n (inr d) =
-      seat-other (w .engine .set-up) ws (length (h .updaters)) (front (rolled (w .engine))) (owner-of (rolled (w .engine))) h rolled-line n
-      (thread-of (w .engine) n) d refl (h .updaters) (rolled-idle-seat n)
+  rolled-seat : (n : ℕ) → Rolled-seat n (rolled-history .present n)
+  rolled-seat =
+      seats-after h rolled-line (λ k. thread-of (w .engine) k) (λ k. thread-of (w .engine) k) (λ k d. refl) (λ k. refl)
+      (subst (λ (y : Transaction). Rolled-seat 0 y) (sym (present-caller (w .engine .set-up) h rolled-line 0 refl))
+      (seat-watched (length (h .updaters)) (leads-at (w .engine .set-up) rolled-line 0) (h .present 0) (rolled-idle-seat 0)))
+      (λ k d. rolled-idle-seat k)
 
   -- nothing is left to drain, so the stored words are the serial run's
   rolled-word : (a : ℕ) → a < length (w .words) → Word-fits (w .engine .set-up) ws (h .updaters) (w .words) (front (rolled (w .engine))) a
   rolled-word a l =
       subst (λ (fs : ℕ → Front). Word-fits (w .engine .set-up) ws (h .updaters) (w .words) fs a) (sym (fun-ext rolled-fronts))
-      (f .words a l ∙ ap (λ o. getD (put-in (w .words) (left-of o)) a 0) (all-free (owner-of (w .engine) (stripe-of (w .engine .set-up) a))))
+      (free-word-stored f a l (all-free (owner-of (w .engine) (stripe-of (w .engine .set-up) a))))
 
   -- no updater has words to drain
   rolled-spent : (k : ℕ) → Spent (w .engine) h k → Spent (rolled (w .engine)) rolled-history k
   rolled-spent k (inl e) = inl e
-  rolled-spent k (inr x) = absurd (free-not-sealed (thread-of (w .engine) (x .thread)) (x .ticket) (x .drained) (all-free (x .thread)) (x .sealed))
+  rolled-spent k (inr x) = absurd (free-not-draining x (all-free (x .thread)) refl)
 
   -- a roll that is not refused keeps the invariant
   roll-rolls : Kept ws (length (h .updaters)) w h beats Roll (roll-idle w true)
@@ -137,9 +125,9 @@ module _ (ws : List ℕ) (base : ℕ) (w : World) (h : History) (beats : Table) 
       count = omega arith;
       stripes = λ s.
           subst (λ (x : Front). Stripe-fits (w .engine .set-up) (h .updaters) (length (h .updaters)) 0 s x) (sym (rolled-fronts s))
-          (record { rises = omega arith; by-clock = omega arith; untouched = λ k low high. absurd (omega arith) });
+          (bare-fits (w .engine .set-up) (h .updaters) s);
       words = rolled-word;
-      seats = λ n. rolled-seat n (cases-eq n 0);
+      seats = rolled-seat;
       spent = λ k l. rolled-spent k (f .spent k l);
       loads = f .loads;
       past-points = f .past-points;
@@ -152,9 +140,9 @@ pub roll-keeps : Roll-keeps
 roll-keeps ws base w h beats f = due (w .engine .mark)
   where
     still : (b : Bool) → idle-to (w .engine) (w .engine .set-up .threads) ≡ b → (next : ℕ) × Kept ws next w h beats Roll (roll-idle w b)
-    still false e = (base, refused-keeps ws base w h beats Roll ThreadsActive f)
+    still false e = (base, refused-keeps ws base w h beats Roll f ThreadsActive)
     still true e = (length (h .updaters), roll-rolls ws base w h beats f e)
 
     due : (b : Bool) → (next : ℕ) × Kept ws next w h beats Roll (roll-due w b)
-    due false = (base, refused-keeps ws base w h beats Roll RollNotDue f)
+    due false = (base, refused-keeps ws base w h beats Roll f RollNotDue)
     due true = still (idle-to (w .engine) (w .engine .set-up .threads)) refl

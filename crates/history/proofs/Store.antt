@@ -7,27 +7,25 @@ use mathlib.Core.List.{List, [], _∷_, _++_}
 use mathlib.Core.Logic.{_⊎_, inl, inr}
 use mathlib.Core.Path.{_≡_, refl, ap, sym, subst, _∙_}
 use Rattle.common.specs.declared.refusal.Refusal.the-variants.{NoSuchPlace, LogFull, StripeBusy}
-use Rattle.common.specs.declared.refusal.Refusal.{Refusal}
 use Rattle.contention.specs.Events.{Event, stripe-taken}
 use Rattle.history.proofs.GoingOn.{Left-or-beaten, Taken-by, goes-on-keeps}
-use Rattle.history.proofs.Holders.{free-hold}
-use Rattle.history.proofs.Invariant.{Fits, Front, Running-fits, front, stores-in}
-use Rattle.history.proofs.KeyedEntries.{grown-roomy, has-replaced, pushed-cases}
-use Rattle.history.proofs.Keys.{found-has}
-use Rattle.history.proofs.Maps.{at-put-same, at-put-other}
-use Rattle.history.proofs.Phases.{Admitted, admitted-parts, running-phase}
-use Rattle.history.proofs.Plan.{Kept, Leader-beats, Lost-keeps, Store-keeps}
+use Rattle.history.proofs.Holders.{not-busy-free}
+use Rattle.history.proofs.Invariant.{Fits, Front, Running-fits, Runs-on, front, stores-in}
+use Rattle.history.proofs.KeyedEntries.{found-has, grown-roomy, has-replaced, pushed-cases}
+use Rattle.history.proofs.Maps.{at-put-other, at-put-same}
+use Rattle.history.proofs.Phases.{Admitted, running-fits, running-phase}
+use Rattle.history.proofs.Plan.{Kept, Store-keeps}
+use Rattle.history.proofs.PutIn.{address-of, has-address}
 use Rattle.history.proofs.Quiet.{quiet-outcome, quiet-state}
-use Rattle.history.proofs.Refusals.{refused-keeps}
-use Rattle.history.proofs.Running.{running-fits}
+use Rattle.history.proofs.Refusals.{admitted-or-refused, refused-keeps}
 use Rattle.history.proofs.Wins.{Won, contend-keeps, threaded, won-then}
 use Rattle.history.specs.Record.{History, Work, Fall, called}
 use Rattle.history.specs.Serial.{write-log}
-use Rattle.layout.specs.Lookups.{has-key, replaced}
+use Rattle.layout.specs.Lookups.{replaced}
 use Rattle.layout.specs.SetUps.{stripe-of}
 use Rattle.layout.specs.declared.entries.WriteEntry.{WriteEntry}
 use Rattle.layout.specs.declared.set_up.SetUp.{SetUp}
-use Rattle.rules.specs.Admission.{admitted, is-running}
+use Rattle.rules.specs.Admission.{is-running}
 use Rattle.rules.specs.Conflicts.{busy, owner-of}
 use Rattle.rules.specs.Load.{grown, is-full}
 use Rattle.rules.specs.Maps.{Map, at, put}
@@ -39,16 +37,14 @@ use Rattle.rules.specs.declared.call.Call.the-variants.{Store}
 use Rattle.rules.specs.declared.kind.Kind.the-variants.{Store as Storing}
 use Rattle.rules.specs.declared.phase.Phase.the-variants.{Running}
 use Rattle.std.proofs.shelf.Tests.{cases-eq, cond-false, cond-true, eq-eqb, eqb-true, or-left, or-right}
-use Rattle.std.specs.declared.option.Option.the-variants.{None}
 use Rattle.std.specs.declared.option.Option.{Option}
-use Rattle.std.specs.declared.result.Result.the-variants.{Ok, Err}
-use Rattle.std.specs.declared.result.Result.{Result}
+use Rattle.std.specs.declared.option.Option.the-variants.{None}
 
 -- what is left to show of a transaction that stored: its log is the one that its stores make, of the addresses that it
 -- had and the new one, and of stripes it gained at most that of the new one
 record Logged (u : SetUp) (owner owner′ : ℕ → ℕ) (n a v : ℕ) (t : Thread) (w : Work) (es : List WriteEntry) : Type 0 where
   log : es ≡ write-log (Store n a v ∷ w .calls)
-  keys : (b : ℕ) → has-key (λ e. e .address) b es ≡ true → (has-key (λ e. e .address) b (t .writes) ≡ true) ⊎ (a ≡ b)
+  keys : (b : ℕ) → has-address b es ≡ true → (has-address b (t .writes) ≡ true) ⊎ (a ≡ b)
   keeps : (s : ℕ) → owner s ≡ n → owner′ s ≡ n
   gains : (s : ℕ) → owner′ s ≡ n → (owner s ≡ n) ⊎ (stripe-of u a ≡ s)
   owned : owner′ (stripe-of u a) ≡ n
@@ -74,7 +70,7 @@ logged-fits u ws us base fs owner owner′ n a v t w f es r x = record {
   others = r .others;
 }
   where
-    owns : (b : ℕ) → (has-key (λ e. e .address) b (t .writes) ≡ true) ⊎ (a ≡ b) → owner′ (stripe-of u b) ≡ n
+    owns : (b : ℕ) → (has-address b (t .writes) ≡ true) ⊎ (a ≡ b) → owner′ (stripe-of u b) ≡ n
     owns b (inl has) = x .keeps (stripe-of u b) (r .owns-log b has)
     owns b (inr e) = ap (λ (c : ℕ). owner′ (stripe-of u c)) (sym e) ∙ x .owned
 
@@ -82,7 +78,7 @@ logged-fits u ws us base fs owner owner′ n a v t w f es r x = record {
     stored s (inl o) = or-right (eqb (stripe-of u a) s) (stores-in u s w) (r .owns-stored s o)
     stored s (inr e) = or-left (eqb (stripe-of u a) s) (stores-in u s w) (eq-eqb (stripe-of u a) s e)
 
-module _ (leader-beats : Leader-beats) (ws : List ℕ) (base : ℕ) (w : World) (h : History) (beats : Table) (n a v : ℕ)
+module _ (ws : List ℕ) (base : ℕ) (w : World) (h : History) (beats : Table) (n a v : ℕ)
     (f : Fits ws base w h) (run : thread-of (w .engine) n .phase ≡ Running) where
   -- a store that is done
   logged-keeps : (log : List WriteEntry) (es : List Event) (ss : Map Stripe) (ts : Map Thread) →
@@ -92,25 +88,26 @@ module _ (leader-beats : Leader-beats) (ws : List ℕ) (base : ℕ) (w : World) 
       Logged (w .engine .set-up) (owner-of (w .engine)) (λ s. at ss s .owner) n a v (thread-of (w .engine) n) (h .present n .work) log →
       Kept ws base w h beats (Store n a v) (quiet-outcome w Done es (quiet-state (w .engine) (w .engine .mark) ss ts))
   logged-keeps log es ss ts own others stripes x =
-      goes-on-keeps leader-beats ws base w h beats (Store n a v) Done es (called (Store n a v))
+      goes-on-keeps ws base w h beats (Store n a v) Done es (called (Store n a v))
       (w .engine .mark) ss ts f run
       (record { acts = λ t. refl; thread = λ y. refl; updaters = λ y us. refl; past = λ t us. refl; told = refl })
       (record {
         others = others;
         stripes = stripes;
         running = ap (λ (t : Thread). t .phase) own ∙ run;
-        fits = subst (λ (t : Thread). Running-fits (w .engine .set-up) ws (h .updaters) base (front (w .engine)) (λ s. at ss s .owner) n t
+        fits =
+            subst (λ (t : Thread). Runs-on ws base w h (λ s. at ss s .owner) n t
             (called (Store n a v) (h .present n .work)) (h .present n .fall)) (sym own)
             (logged-fits (w .engine .set-up) ws (h .updaters) base (front (w .engine)) (owner-of (w .engine)) (λ s. at ss s .owner) n a v
-            (thread-of (w .engine) n) (h .present n .work) (h .present n .fall) log (running-fits ws base w h n f run) x);
+            (thread-of (w .engine) n) (h .present n .work) (h .present n .fall) log (running-fits (f .seats n) run) x);
       })
 
   -- whether the address is logged is whether it was stored to
   logged-before : (b : Bool) → has-written (thread-of (w .engine) n) a ≡ b →
-      has-key (λ e. e .address) a (write-log (h .present n .work .calls)) ≡ b
+      has-address a (write-log (h .present n .work .calls)) ≡ b
   logged-before b e =
-      ap (has-key (λ (y : WriteEntry). y .address) a) (sym (running-fits ws base w h n f run .log))
-      ∙ sym (found-has (λ (y : WriteEntry). y .address) a (thread-of (w .engine) n .writes)) ∙ e
+      ap (has-address a) (sym (running-fits (f .seats n) run .log))
+      ∙ sym (found-has address-of a (thread-of (w .engine) n .writes)) ∙ e
 
   -- a store to an address that is logged
   rewrite-keeps : has-written (thread-of (w .engine) n) a ≡ true → Kept ws base w h beats (Store n a v) (store-logged beats w n a v true)
@@ -121,16 +118,17 @@ module _ (leader-beats : Leader-beats) (ws : List ℕ) (base : ℕ) (w : World) 
       (λ s. inl refl)
       (record {
         log =
-            ap (replaced (λ (y : WriteEntry). y .address) (entry a v)) (running-fits ws base w h n f run .log)
+            ap (replaced address-of (entry a v)) (running-fits (f .seats n) run .log)
             ∙ sym (cond-true _ _ _ (logged-before true has));
-        keys = λ b key. inl (sym (has-replaced (λ (y : WriteEntry). y .address) b (entry a v) (thread-of (w .engine) n .writes)) ∙ key);
+        keys = λ b key. inl (sym (has-replaced address-of b (entry a v) (thread-of (w .engine) n .writes)) ∙ key);
         keeps = λ s o. o;
         gains = λ s o. inl o;
-        owned = running-fits ws base w h n f run .owns-log a (sym (found-has (λ (y : WriteEntry). y .address) a (thread-of (w .engine) n .writes)) ∙ has);
+        owned =
+            running-fits (f .seats n) run .owns-log a (sym (found-has address-of a (thread-of (w .engine) n .writes)) ∙ has);
       })
     where
       log : List WriteEntry
-      log = replaced (λ e. e .address) (entry a v) (thread-of (w .engine) n .writes)
+      log = replaced address-of (entry a v) (thread-of (w .engine) n .writes)
 
       rewritten : Thread
       rewritten = with-writes (thread-of (w .engine) n) log
@@ -161,9 +159,9 @@ module _ (leader-beats : Leader-beats) (ws : List ℕ) (base : ℕ) (w : World) 
         Logged (w .engine .set-up) (owner-of (w .engine)) owner′ n a v (thread-of (w .engine) n) (h .present n .work) longer
     log-noted owner′ keeps gains owned = record {
       log =
-          ap (λ (es : List WriteEntry). es ++ entry a v ∷ []) (running-fits ws base w h n f run .log)
+          ap (λ (es : List WriteEntry). es ++ entry a v ∷ []) (running-fits (f .seats n) run .log)
           ∙ sym (cond-false _ _ _ (logged-before false fresh));
-      keys = λ b key. pushed-cases (λ (y : WriteEntry). y .address) b (thread-of (w .engine) n .writes) (entry a v) key;
+      keys = λ b key. pushed-cases address-of b (thread-of (w .engine) n .writes) (entry a v) key;
       keeps = keeps;
       gains = gains;
       owned = owned;
@@ -182,7 +180,8 @@ module _ (leader-beats : Leader-beats) (ws : List ℕ) (base : ℕ) (w : World) 
     claimed = record { version = stripe-at (w .engine) stored-stripe .version; owner = n }
 
     -- its former owner does not run any more
-    claimed-settled : (owner-of (w .engine) stored-stripe ≡ n → ⊥) → is-running (at (put ts n noted) (owner-of (w .engine) stored-stripe) .phase) ≡ false
+    claimed-settled : (owner-of (w .engine) stored-stripe ≡ n → ⊥) →
+        is-running (at (put ts n noted) (owner-of (w .engine) stored-stripe) .phase) ≡ false
     claimed-settled d =
         ap (λ (t : Thread). is-running (t .phase)) (at-put-other ts n (owner-of (w .engine) stored-stripe) noted d) ∙ won .settled d
 
@@ -226,7 +225,8 @@ module _ (leader-beats : Leader-beats) (ws : List ℕ) (base : ℕ) (w : World) 
         (ap (λ (x : Stripe). x .owner) (at-put-same (w .engine .stripes) stored-stripe claimed)))
 
     -- whichever it is
-    won-keeps : (es : List Event) → Kept ws base w h beats (Store n a v) (store-won w n a v stored-stripe (goes (threaded (w .engine) ts) es))
+    won-keeps : (es : List Event) →
+        Kept ws base w h beats (Store n a v) (store-won w n a v stored-stripe (goes (threaded (w .engine) ts) es))
     won-keeps es = go (eqb (owner-of (w .engine) stored-stripe) n) refl
       where
         go : (b : Bool) → eqb (owner-of (w .engine) stored-stripe) n ≡ b →
@@ -235,43 +235,41 @@ module _ (leader-beats : Leader-beats) (ws : List ℕ) (base : ℕ) (w : World) 
         go false p = taken-keeps es
 
 -- the checks of a store, one after another
-module _ (lost-keeps : Lost-keeps) (leader-beats : Leader-beats) (ws : List ℕ) (base : ℕ) (w : World) (h : History) (beats : Table)
+module _ (ws : List ℕ) (base : ℕ) (w : World) (h : History) (beats : Table)
     (n a v : ℕ) (f : Fits ws base w h) where
   module _ (run : thread-of (w .engine) n .phase ≡ Running) where
     -- the stripe is busy or not
     free-keeps : has-written (thread-of (w .engine) n) a ≡ false → is-full (thread-of (w .engine) n .writes) ≡ false →
         (b : Bool) → busy (w .engine) n (stripe-of (w .engine .set-up) a) ≡ b →
         Kept ws base w h beats (Store n a v) (store-free beats w n a v (stripe-of (w .engine .set-up) a) b)
-    free-keeps fresh roomy true p = refused-keeps ws base w h beats (Store n a v) StripeBusy f
+    free-keeps fresh roomy true p = refused-keeps ws base w h beats (Store n a v) f StripeBusy
     free-keeps fresh roomy false p =
-        contend-keeps lost-keeps leader-beats ws base w h beats (Store n a v) (stripe-of (w .engine .set-up) a) (thread-of (w .engine) n .snapshot)
-        (w .engine .threads) f run (record { own = refl; others = λ k d. refl }) (store-won w n a v (stripe-of (w .engine .set-up) a)) (λ l st. refl)
-        (λ ts es won. won-keeps leader-beats ws base w h beats n a v f run fresh roomy
-        (free-hold ws base w h n (stripe-of (w .engine .set-up) a) f run p) ts won es)
+        contend-keeps ws base w h beats (Store n a v) (stripe-of (w .engine .set-up) a) (thread-of (w .engine) n .snapshot)
+        (w .engine .threads) f run (record { own = refl; others = λ k d. refl })
+        (store-won w n a v (stripe-of (w .engine .set-up) a)) (λ l st. refl)
+        (λ ts es won. won-keeps ws base w h beats n a v f run fresh roomy
+        (not-busy-free ws base w h n (stripe-of (w .engine .set-up) a) f run p) ts won es)
 
     -- the write log has room or not
     roomy-keeps : has-written (thread-of (w .engine) n) a ≡ false → (b : Bool) → is-full (thread-of (w .engine) n .writes) ≡ b →
         Kept ws base w h beats (Store n a v) (store-roomy beats w n a v (stripe-of (w .engine .set-up) a) b)
-    roomy-keeps fresh true p = refused-keeps ws base w h beats (Store n a v) LogFull f
+    roomy-keeps fresh true p = refused-keeps ws base w h beats (Store n a v) f LogFull
     roomy-keeps fresh false p = free-keeps fresh p (busy (w .engine) n (stripe-of (w .engine .set-up) a)) refl
 
     -- the address is in the write log or not
-    entry-keeps : (b : Bool) → has-written (thread-of (w .engine) n) a ≡ b → Kept ws base w h beats (Store n a v) (store-logged beats w n a v b)
-    entry-keeps true p = rewrite-keeps leader-beats ws base w h beats n a v f run p
+    entry-keeps : (b : Bool) → has-written (thread-of (w .engine) n) a ≡ b →
+        Kept ws base w h beats (Store n a v) (store-logged beats w n a v b)
+    entry-keeps true p = rewrite-keeps ws base w h beats n a v f run p
     entry-keeps false p = roomy-keeps p (is-full (thread-of (w .engine) n .writes)) refl
 
   -- there is such an address or not
   placed-keeps : Admitted (w .engine) Storing n → (b : Bool) → Kept ws base w h beats (Store n a v) (store-placed beats w n a v b)
-  placed-keeps x false = refused-keeps ws base w h beats (Store n a v) NoSuchPlace f
+  placed-keeps x false = refused-keeps ws base w h beats (Store n a v) f NoSuchPlace
   placed-keeps x true =
       entry-keeps (running-phase (thread-of (w .engine) n .phase) (x .fits)) (has-written (thread-of (w .engine) n) a) refl
 
-  -- the thread may store or not
-  admitted-keeps : (r : Result (Unit {0}) Refusal) → admitted (w .engine) Storing n ≡ r → Kept ws base w h beats (Store n a v) (store-admitted beats w n a v r)
-  admitted-keeps (Err r) p = refused-keeps ws base w h beats (Store n a v) r f
-  admitted-keeps (Ok x) p = placed-keeps (admitted-parts (w .engine) Storing n x p) (ltb a (length (w .words)))
-
--- a store keeps everything, whatever it meets
-pub store-keeps : Lost-keeps → Leader-beats → Store-keeps
-store-keeps lost-keeps leader-beats ws base w h beats n a v f =
-    admitted-keeps lost-keeps leader-beats ws base w h beats n a v f (admitted (w .engine) Storing n) refl
+-- a store is refused, or it keeps everything whatever it meets
+pub store-keeps : Store-keeps
+store-keeps ws base w h beats n a v f =
+    admitted-or-refused ws base w h beats (Store n a v) f Storing n (store-admitted beats w n a v) (λ r. refl)
+    (λ x. placed-keeps ws base w h beats n a v f x (ltb a (length (w .words))))

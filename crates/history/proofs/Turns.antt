@@ -3,7 +3,7 @@ use Prim.Native.Nat.{ℕ, _+_, _<_, _≤_}
 use lib.ListN.{length, getD, set, take, drop}
 use lib.Seq.{drop-set-lt}
 use mathlib.Core.List.{List, [], _∷_, _++_, map, append-assoc, append-nil}
-use mathlib.Core.Path.{_≡_, refl, sym, ap, subst, _∙_}
+use mathlib.Core.Path.{_≡_, sym, ap, _∙_}
 use native.Mathlib.Omega.{arith}
 use Rattle.contention.specs.Events.{Event, after-events}
 use Rattle.history.specs.Record.{Line}
@@ -13,7 +13,6 @@ use Rattle.history.specs.declared.turn.Turn.{Turn}
 use Rattle.rules.specs.Calls.{perform}
 use Rattle.rules.specs.Outcomes.{Table}
 use Rattle.rules.specs.States.{World}
-use Rattle.rules.specs.declared.call.Call.{Call}
 use Rattle.std.proofs.shelf.Lists.{drop-more, drop-all, take-all, take-more-set}
 
 module _ {P : Type 0} (table : P → Table) (moved : P → Event → P) where
@@ -56,10 +55,13 @@ module _ {P : Type 0} (table : P → Table) (moved : P → Event → P) where
         opened : drop i first ≡ x ∷ drop (i + 1) first
         opened = drop-more first i d (omega arith) ∙ ap (λ z. z ∷ drop (i + 1) first) same
 
-        goes-on : run-from table moved w p (calls-of (drop i first)) ≡ begun-by next (run-from table moved w′ p′ (calls-of (drop (i + 1) first)))
+        goes-on : run-from table moved w p (calls-of (drop i first))
+            ≡ begun-by next (run-from table moved w′ p′ (calls-of (drop (i + 1) first)))
         goes-on =
             ap (λ ts. run-from table moved w p (calls-of ts)) opened ∙
-            ap (λ v. begun-by next (run-from table moved v (after-events moved p (perform (table p) w (x .call) .told)) (calls-of (drop (i + 1) first)))) (sym left) ∙
+            ap (λ v. begun-by next
+            (run-from table moved v (after-events moved p (perform (table p) w (x .call) .told)) (calls-of (drop (i + 1) first))))
+            (sym left) ∙
             ap (λ q. begun-by next (run-from table moved w′ q (calls-of (drop (i + 1) first)))) (sym told)
 
         regrouped : take i now ++ (turn-of next ∷ map turn-of (run-from table moved w′ p′ (calls-of (drop (i + 1) first)) .lines)) ≡

@@ -7,14 +7,16 @@ use mathlib.Core.Logic.{_⊎_, inl, inr}
 use mathlib.Core.Path.{_≡_, refl, ap, sym, subst, _∙_}
 use native.Mathlib.Omega.{arith}
 use Rattle.contention.specs.Events.{seal-of}
-use Rattle.history.proofs.Callers.{runs, present-unlost, draining-other, running-not-draining}
-use Rattle.history.proofs.Fronts.{hold-none}
-use Rattle.history.proofs.Growth.{Grows, loads-grow, point-grows, points-grow, all-spared-grow}
-use Rattle.history.proofs.Invariant.{Fits, Front, Hold, Stripe-fits, Word-fits, Running-fits, Overtaken, Owns-log, Seat, Spent, front, hold-of, left-of, top, stores-in}
-use Rattle.history.proofs.Lines.{leads-at}
-use Rattle.history.proofs.Logs.{misses-unowned, unowned-unstored, sealed-word, push-grows, put-in-misses, put-in-same, serial-length}
+use Rattle.history.proofs.Growth.{Grows, all-spared-grow, loads-grow, point-alike, point-grows, points-grow}
+use Rattle.history.proofs.Holders.{free-by-phase, free-not-draining, free-word-stored}
+use Rattle.history.proofs.Invariant.{Fits, Front, Overtaken, Owns-log, Running-fits, Seat, Spent, Stripe-fits, Word-fits, front, hold-of, left-of, stores-in, top}
+use Rattle.history.proofs.Lines.{leads-at, present-unlost, work-other}
+use Rattle.history.proofs.Logs.{misses-unowned, unowned-unstored}
+use Rattle.history.proofs.Phases.{running-fits}
 use Rattle.history.proofs.Plan.{Kept, then}
-use Rattle.history.proofs.Seats.{Apart, seat-apart, seat-other, number-other}
+use Rattle.history.proofs.PutIn.{put-in-misses, put-in-same}
+use Rattle.history.proofs.Seats.{Apart, draining-on, seat-apart, seats-after}
+use Rattle.history.proofs.SerialRuns.{push-grows, serial-length, serial-pushed-word}
 use Rattle.history.specs.Law.{updater, Loads-at, Spared}
 use Rattle.history.specs.Record.{History, Line, Transaction, Work, Fall, called-seal, with-work, watched, rewritten, no-work}
 use Rattle.history.specs.Runs.{loss-in, line-of}
@@ -37,11 +39,12 @@ use Rattle.std.specs.declared.option.Option.{Option}
 use Rattle.std.specs.declared.option.Option.the-variants.{Some, None}
 
 -- the engine with the clock one higher, and these threads
-abbrev pub stamped : State → Map Thread → State
+abbrev stamped : State → Map Thread → State
 stamped st ts =
     record { set-up = st .set-up; clock = st .clock + 1; mark = st .mark; stripes = st .stripes; threads = ts }
 
-abbrev pub updater-sealed : World → ℕ → Map Thread → Outcome
+-- the outcome of the seal
+abbrev updater-sealed : World → ℕ → Map Thread → Outcome
 updater-sealed w n ts =
     record { answer = Sealed (Updater (w .engine .clock + 1)); told = seal-of n ∷ []; after = over w (stamped (w .engine) ts) }
 
@@ -104,7 +107,7 @@ module _ (ws : List ℕ) (base : ℕ) (w : World) (h : History) (beats : Table) 
 
   -- what is known of the caller and of the number of updaters
   run : Running-fits u ws us base (front (w .engine)) owners n (thread-of (w .engine) n) mine (h .present n .fall)
-  run = runs ws base w h n f running
+  run = running-fits (f .seats n) running
 
   longer : length more ≡ length us + 1
   longer = length-push us (new-updater h n)
@@ -154,7 +157,7 @@ module _ (ws : List ℕ) (base : ℕ) (w : World) (h : History) (beats : Table) 
   -- no sealed thread holds a stripe of a running one
   held-by-none : (s : ℕ) → owners s ≡ n → front (w .engine) s .hold ≡ None
   held-by-none s e =
-      ap (λ (k : ℕ). hold-of (thread-of (w .engine) k)) e ∙ hold-none (thread-of (w .engine) n) Running running refl
+      ap (λ (k : ℕ). hold-of (thread-of (w .engine) k)) e ∙ free-by-phase (thread-of (w .engine) n) Running running refl
 
   -- every word fits
   sealed-words : (a : ℕ) → a < length (w .words) →
@@ -162,14 +165,14 @@ module _ (ws : List ℕ) (base : ℕ) (w : World) (h : History) (beats : Table) 
       Word-fits u ws more (w .words) (front after) a
   sealed-words a l (inl e) =
       let s = stripe-of u a in
-      sealed-word ws us (new-updater h n) a (omega (arith, serial-length ws us, f .sized))
-      ∙ put-in-same (serial-run ws us) (w .words) (write-log (mine .calls)) a
-      (serial-length ws us ∙ sym (f .sized))
-      (f .words a l ∙ ap (λ (o : Option Hold). getD (put-in (w .words) (left-of o)) a 0) (held-by-none s e))
+      let long : a < length (serial-run ws us) = omega (arith, serial-length ws us, f .sized) in
+      serial-pushed-word ws us (new-updater h n) a long
+      ∙ put-in-same (serial-run ws us) (w .words) (write-log (mine .calls)) a long l
+      (free-word-stored f a l (held-by-none s e))
       ∙ ap (λ (es : List WriteEntry). getD (put-in (w .words) es) a 0) (sym (run .log))
       ∙ ap (λ (x : Front). getD (put-in (w .words) (left-of (x .hold))) a 0) (sym (front-own s e))
   sealed-words a l (inr d) =
-      sealed-word ws us (new-updater h n) a (omega (arith, serial-length ws us, f .sized))
+      serial-pushed-word ws us (new-updater h n) a (omega (arith, serial-length ws us, f .sized))
       ∙ put-in-misses (serial-run ws us) (write-log (mine .calls)) a (misses-unowned u owners n (write-log (mine .calls)) a owns d)
       ∙ f .words a l
       ∙ ap (λ (x : Front). getD (put-in (w .words) (left-of (x .hold))) a 0) (sym (front-other (stripe-of u a) d))
@@ -180,7 +183,7 @@ module _ (ws : List ℕ) (base : ℕ) (w : World) (h : History) (beats : Table) 
 
   -- at its moment the new updater loads what it loaded
   new-loads : Loads-at ws more (length us) mine
-  new-loads = loads-grow ws us more grown (length us) mine (omega arith) agrees
+  new-loads = loads-grow grown (length us) mine (omega arith) agrees
 
   -- the caller's thread is sealed, with the new updater as its transaction
   sealed-own : (b : Bool) →
@@ -188,7 +191,6 @@ module _ (ws : List ℕ) (base : ℕ) (w : World) (h : History) (beats : Table) 
       (with-work (watched b (h .present n)) (new-updater h n))
   sealed-own b =
       let s = f .seats n in
-      let p = point-grows ws us more grown mine (s .point) in
       record {
         named = s .named;
         inside = λ e. absurd (both-ways (is-thread u n) e inside);
@@ -203,15 +205,8 @@ module _ (ws : List ℕ) (base : ℕ) (w : World) (h : History) (beats : Table) 
           drains = sym (run .undrained);
           owns-log = run .owns-log;
         };
-        point = record {
-          moment = p .moment;
-          since-begin = p .since-begin;
-          by-last-load = p .by-last-load;
-          so-far = p .so-far;
-          loads = p .loads;
-        };
-        spared =
-            subst (λ (o : Option Fall). Spared u more (new-updater h n) o) (sym (run .standing)) tt;
+        point = point-alike mine (new-updater h n) refl refl (λ m e. e) (point-grows grown mine (s .point));
+        spared = subst (λ (o : Option Fall). Spared u more (new-updater h n) o) (sym (run .standing)) tt;
       }
 
   -- a read entry of another thread at a stripe of the new updater is overtaken
@@ -233,32 +228,21 @@ module _ (ws : List ℕ) (base : ℕ) (w : World) (h : History) (beats : Table) 
   fronts-apart k s d (inl e) = inr (overtakes k s d e)
   fronts-apart k s d (inr x) = inl (front-other s x)
 
-  others-apart : (k : ℕ) → (k ≡ n → ⊥) → Apart u ws us more (front (w .engine)) (front after) owners owners k
+  -- so the other threads are apart from the seal
+  others-apart : (k : ℕ) → (k ≡ n → ⊥) →
+      Apart u ws us more (front (w .engine)) (front after) owners owners k (thread-of (w .engine) k .phase)
   others-apart k d = record {
     grows = grown;
     newer = λ j low high e. d (sym e ∙ ap (λ (x : Work). x .thread) (pushed-new h n j low high) ∙ f .seats n .named);
     same = λ j l e. pushed-old h n j l;
     gains = λ s e. e;
-    keeps = λ s e. e;
+    keeps = λ busy s e. e;
     fronts = λ s e. fronts-apart k s d (cases-eq (owners s) n);
   }
 
   -- the caller's transaction is the new updater
   sealed-present : next .present n ≡ with-work (watched (leads-at u line n) (h .present n)) (new-updater h n)
   sealed-present = present-unlost u h line refl (ap (λ (t : Thread). loss-in (t .phase)) own)
-
-  -- every thread's seat
-  sealed-seat : (k : ℕ) → (k ≡ n) ⊎ (k ≡ n → ⊥) → Seat u ws more base (front after) owners k (at ts k) (next .present k)
-  sealed-seat k (inl e) =
-      subst (λ (j : ℕ). Seat u ws more base (front after) owners j (at ts j) (next .present j)) (sym e)
-      (subst (λ (t : Thread). Seat u ws more base (front after) owners n t (next .present n)) (sym own)
-      (subst (λ (x : Transaction). Seat u ws more base (front after) owners n (ticketed (w .engine) n end) x) (sym sealed-present)
-      (sealed-own (leads-at u line n))))
-  sealed-seat k (inr d) =
-      seat-other u ws base (front after) owners h line k (at ts k) d refl more
-      (subst (λ (t : Thread). Seat u ws more base (front after) owners k t (h .present k)) (sym (apart k d))
-      (seat-apart u ws us more (front (w .engine)) (front after) owners owners k base (thread-of (w .engine) k) (h .present k) grown
-      (λ e. others-apart k d) (f .seats k)))
 
   -- what was drained or is being drained, with the new updater
   sealed-spent : (k : ℕ) → k < length more → (k < length us) ⊎ (length us ≤ k) →
@@ -268,9 +252,8 @@ module _ (ws : List ℕ) (base : ℕ) (w : World) (h : History) (beats : Table) 
       go : Spent (w .engine) h k → Spent after next k
       go (inl e) = inl (ap not-drained (pushed-old h n k l) ∙ e)
       go (inr x) =
-          inr (draining-other (w .engine) after h next n k apart
-          (λ j d. number-other u h line j d)
-          x (running-not-draining (w .engine) h n k running x))
+          let d = free-not-draining x (free-by-phase (thread-of (w .engine) n) Running running refl) in
+          inr (draining-on x (apart (x .thread) d) (work-other u h line (x .thread) d))
   sealed-spent k high (inr l) = inr (record {
     thread = n;
     ticket = w .engine .clock + 1;
@@ -286,12 +269,13 @@ module _ (ws : List ℕ) (base : ℕ) (w : World) (h : History) (beats : Table) 
       Loads-at ws more k (updater more k)
   sealed-loads k high (inl l) =
       subst (λ (x : Work). Loads-at ws more k x) (sym (pushed-old h n k l))
-      (loads-grow ws us more grown k (updater us k) (omega arith) (f .loads k l))
+      (loads-grow grown k (updater us k) (omega arith) (f .loads k l))
   sealed-loads k high (inr l) =
       let e : length us ≡ k = omega (arith, longer) in
       subst (λ (x : Work). Loads-at ws more k x) (sym (pushed-new h n k l high))
       (subst (λ (j : ℕ). Loads-at ws more j (new-updater h n)) e new-loads)
 
+  -- such a seal keeps the invariant
   pub updater-keeps : Kept ws base w h beats (Seal n) (updater-sealed w n ts)
   updater-keeps = record {
     same-set-up = refl;
@@ -305,10 +289,15 @@ module _ (ws : List ℕ) (base : ℕ) (w : World) (h : History) (beats : Table) 
           count = omega (arith, longer, f .count);
           stripes = λ s. sealed-stripe s (cases-eq (owners s) n);
           words = λ a l. sealed-words a l (cases-eq (owners (stripe-of u a)) n);
-          seats = λ k. sealed-seat k (cases-eq k n);
+          seats =
+              seats-after h line (λ k. thread-of (w .engine) k) (λ k. at ts k) apart (λ k. refl)
+              (subst (λ (t : Thread). Seat u ws more base (front after) owners n t (next .present n)) (sym own)
+              (subst (λ (x : Transaction). Seat u ws more base (front after) owners n (ticketed (w .engine) n end) x)
+              (sym sealed-present) (sealed-own (leads-at u line n))))
+              (λ k d. seat-apart grown (λ z live. others-apart k d) (f .seats k));
           spent = λ k l. sealed-spent k l (cases-lt k (length us));
           loads = λ k l. sealed-loads k l (cases-lt k (length us));
-          past-points = points-grow ws us more grown (h .past) (f .past-points);
-          past-spared = all-spared-grow ws us more grown u (h .past) (f .past-spared);
+          past-points = points-grow grown (h .past) (f .past-points);
+          past-spared = all-spared-grow grown u (h .past) (f .past-spared);
         });
   }

@@ -1,6 +1,6 @@
 -- Where a running thread meets the holder of a stripe: one of them is lost, and the rest is as it was.
 use Prim.Native.Nat.{ℕ}
-use lib.Dec.{eqb, leb}
+use lib.Dec.{eqb}
 use mathlib.Core.Bool.{Bool, true, false, cond, not, _&&_}
 use mathlib.Core.List.{List, [], _∷_}
 use mathlib.Core.Logic.{_⊎_, inl, inr}
@@ -10,21 +10,23 @@ use Rattle.common.specs.declared.loss.Loss.{Loss}
 use Rattle.common.specs.declared.loss.Loss.the-variants.{Beaten, Stolen}
 use Rattle.contention.specs.Events.{Event, win-over}
 use Rattle.history.proofs.GoingOn.{Left-or-beaten}
+use Rattle.history.proofs.Holders.{not-other}
 use Rattle.history.proofs.Invariant.{Fits}
-use Rattle.history.proofs.Maps.{at-put-same, at-put-other}
-use Rattle.history.proofs.Phases.{running-phase}
-use Rattle.history.proofs.Plan.{Kept, Leader-beats, Lost-keeps}
+use Rattle.history.proofs.Leaders.{leader-beats}
+use Rattle.history.proofs.Losses.{lose-keeps}
+use Rattle.history.proofs.Maps.{at-put-other, at-put-same}
+use Rattle.history.proofs.Phases.{running-inside, running-phase, thread-not-zero}
+use Rattle.history.proofs.Plan.{Kept}
 use Rattle.history.proofs.Quiet.{quiet-state}
-use Rattle.history.proofs.Running.{running-member}
 use Rattle.history.specs.Record.{History, caller, leads}
-use Rattle.rules.specs.Admission.{is-running, is-thread}
+use Rattle.rules.specs.Admission.{is-running}
 use Rattle.rules.specs.Conflicts.{clash, contend, contended, is-other, owner-of, rival}
 use Rattle.rules.specs.Maps.{Map, at, put}
 use Rattle.rules.specs.Outcomes.{Outcome, Step, Table, goes, loses, lost}
 use Rattle.rules.specs.States.{State, Thread, World, lose, thread-of, with-phase, with-snapshot}
 use Rattle.rules.specs.declared.call.Call.{Call}
 use Rattle.rules.specs.declared.phase.Phase.the-variants.{Idle, Running, Lost}
-use Rattle.std.proofs.shelf.Tests.{and-cases, and-parts, both-ways, cases-eq, eqb-true, eq-eqb, leb-true, not-false, not-true}
+use Rattle.std.proofs.shelf.Tests.{and-cases, and-parts, both-ways, cases-eq, eq-eqb, not-true}
 use Rattle.std.specs.declared.option.Option.{Option}
 use Rattle.std.specs.declared.option.Option.the-variants.{Some, None}
 
@@ -50,10 +52,10 @@ won-then beats st n s end ts t won k d =
     subst (λ (x : Thread). Left-or-beaten beats n k (thread-of st k) x) (sym (at-put-other ts n k t d)) (won .others k d)
 
 -- a rival is another running owner
-pub record Rivals (st : State) (n s k : ℕ) : Type 0 where
-  pub owner : owner-of st s ≡ k
-  pub other : k ≡ n → ⊥
-  pub running : thread-of st k .phase ≡ Running
+record Rivals (st : State) (n s k : ℕ) : Type 0 where
+  owner : owner-of st s ≡ k
+  other : k ≡ n → ⊥
+  running : thread-of st k .phase ≡ Running
 
 -- the rival that is found is one
 rival-parts : (st : State) (n s k : ℕ) → rival st n s ≡ Some k → Rivals st n s k
@@ -82,15 +84,16 @@ rival-none st n s idle e d = go (is-other n o && is-running (thread-of st o .pha
     o : ℕ
     o = owner-of st s
 
-    nobody : (not (eqb o 0) ≡ false) ⊎ (not (eqb o n) ≡ false) → is-running (thread-of st o .phase) ≡ false
-    nobody (inl p) = ap (λ (j : ℕ). is-running (thread-of st j .phase)) (eqb-true o 0 (not-false (eqb o 0) p)) ∙ ap is-running idle
-    nobody (inr p) = absurd (d (eqb-true o n (not-false (eqb o n) p)))
+    nobody : (o ≡ 0) ⊎ (o ≡ n) → is-running (thread-of st o .phase) ≡ false
+    nobody (inl p) = ap (λ (j : ℕ). is-running (thread-of st j .phase)) p ∙ ap is-running idle
+    nobody (inr p) = absurd (d p)
 
     parts : (is-other n o ≡ false) ⊎ (is-running (thread-of st o .phase) ≡ false) → is-running (thread-of st o .phase) ≡ false
-    parts (inl p) = nobody (and-cases (not (eqb o 0)) (not (eqb o n)) p)
+    parts (inl p) = nobody (not-other n o p)
     parts (inr p) = p
 
-    go : (b : Bool) → (is-other n o && is-running (thread-of st o .phase)) ≡ b → cond b (Some o) None ≡ None → is-running (thread-of st o .phase) ≡ false
+    go : (b : Bool) → (is-other n o && is-running (thread-of st o .phase)) ≡ b → cond b (Some o) None ≡ None →
+        is-running (thread-of st o .phase) ≡ false
     go true p q = absurd (let z : _≡_ {A = ℕ} 0 1 = cc in omega arith)
     go false p q = parts (and-cases (is-other n o) (is-running (thread-of st o .phase)) p)
 
@@ -100,11 +103,11 @@ module _ (ws : List ℕ) (base : ℕ) (w : World) (h : History) (beats : Table) 
   nobody-idle : at ts 0 .phase ≡ Idle
   nobody-idle =
       ap (λ (t : Thread). t .phase)
-      (r .others 0 (λ e. both-ways (is-thread (w .engine .set-up) n) (ap (is-thread (w .engine .set-up)) (sym e)) (running-member ws base w h n f run)))
+      (r .others 0 (λ e. thread-not-zero (w .engine .set-up) n (running-inside (f .seats n) run) (sym e)))
       ∙ f .seats 0 .inside refl
 
   -- a stripe with no rival is won
-  pub won-unopposed : rival (threaded (w .engine) ts) n s ≡ None → Won beats (w .engine) n s end ts
+  won-unopposed : rival (threaded (w .engine) ts) n s ≡ None → Won beats (w .engine) n s end ts
   won-unopposed e = record {
     own = r .own;
     others = λ k d. inl (r .others k d);
@@ -112,12 +115,14 @@ module _ (ws : List ℕ) (base : ℕ) (w : World) (h : History) (beats : Table) 
   }
 
   -- a rival that is beaten leaves it
-  pub won-over : (k : ℕ) → Rivals (threaded (w .engine) ts) n s k → beats n k ≡ true →
+  won-over : (k : ℕ) → Rivals (threaded (w .engine) ts) n s k → beats n k ≡ true →
       Won beats (w .engine) n s end (put ts k (with-phase (at ts k) (Lost (Stolen n))))
   won-over k x wins = record {
     own = at-put-other ts k n victim (λ e. x .other (sym e)) ∙ r .own;
     others = λ j d. other j d (cases-eq j k);
-    settled = λ d. ap (λ (j : ℕ). is-running (at (put ts k victim) j .phase)) (x .owner) ∙ ap (λ (t : Thread). is-running (t .phase)) (at-put-same ts k victim);
+    settled = λ d.
+        ap (λ (j : ℕ). is-running (at (put ts k victim) j .phase)) (x .owner)
+        ∙ ap (λ (t : Thread). is-running (t .phase)) (at-put-same ts k victim);
   }
     where
       victim : Thread
@@ -134,7 +139,7 @@ module _ (ws : List ℕ) (base : ℕ) (w : World) (h : History) (beats : Table) 
       other j d (inr e) = inl (at-put-other ts k j victim e ∙ r .others j d)
 
 -- what comes after the meeting: a loss ends the call, and a won stripe lets it go on
-module _ (lost-keeps : Lost-keeps) (leader-beats : Leader-beats) (ws : List ℕ) (base : ℕ) (w : World) (h : History) (beats : Table) (c : Call)
+module _ (ws : List ℕ) (base : ℕ) (w : World) (h : History) (beats : Table) (c : Call)
     (s end : ℕ) (ts : Map Thread) (f : Fits ws base w h) (run : thread-of (w .engine) (caller c) .phase ≡ Running)
     (r : Refreshed (w .engine) (caller c) end ts) (rest : Step → Outcome)
     (ends : (l : Loss) (st : State) → rest (loses l st) ≡ lost w l st)
@@ -144,18 +149,15 @@ module _ (lost-keeps : Lost-keeps) (leader-beats : Leader-beats) (ws : List ℕ)
   leader-wins : (k : ℕ) → Rivals (threaded (w .engine) ts) (caller c) s k → beats (caller c) k ≡ false →
       leads beats (caller c) (w .engine .set-up .threads) ≡ true → ⊥
   leader-wins k x beaten led =
-      let k-ran : thread-of (w .engine) k .phase ≡ Running = ap (λ (t : Thread). t .phase) (sym (r .others k (x .other))) ∙ x .running in
-      let p = and-parts (leb 1 k) (leb k (w .engine .set-up .threads)) (running-member ws base w h k f k-ran) in
+      let ran : thread-of (w .engine) k .phase ≡ Running = ap (λ (t : Thread). t .phase) (sym (r .others k (x .other))) ∙ x .running in
       both-ways (beats (caller c) k) beaten
-      (leader-beats beats (caller c) k (w .engine .set-up .threads) led (leb-true 1 k (p .0)) (leb-true k (w .engine .set-up .threads) (p .1)) (x .other) .0)
+      (leader-beats (w .engine .set-up) beats (caller c) k led (running-inside (f .seats k) ran) (x .other) .0)
 
   -- so the loss to a rival keeps everything
   lost-to : (k : ℕ) → Rivals (threaded (w .engine) ts) (caller c) s k → beats (caller c) k ≡ false →
       Kept ws base w h beats c (lost w (Beaten k) (lose (threaded (w .engine) ts) (caller c) (Beaten k)))
   lost-to k x beaten =
-      lost-keeps ws base w h beats c (Beaten k) (w .engine .mark) (put ts (caller c) (with-phase (at ts (caller c)) (Lost (Beaten k)))) f run
-      (ap (λ (t : Thread). t .phase) (at-put-same ts (caller c) (with-phase (at ts (caller c)) (Lost (Beaten k)))))
-      (λ j d. at-put-other ts (caller c) j (with-phase (at ts (caller c)) (Lost (Beaten k))) d ∙ r .others j d)
+      lose-keeps ws base w h beats c (Beaten k) (w .engine .mark) ts f run (r .others)
       (λ led. absurd (leader-wins k x beaten led))
 
   -- however the meeting ends, the whole call keeps everything
