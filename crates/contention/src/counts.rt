@@ -10,14 +10,14 @@ pub struct Counts {
 
 impl Counts {
     // Counts of 0 for all threads.
-    pub fn new() -> Counts
+    pub(crate) fn new() -> Counts
         ensures { λ r. ⌜ r .cells ≡ no-counts ⌝ }
     {
         Counts { cells: [0; 8] }
     }
 
     // The count of a thread.
-    pub fn of(&self, thread: ThreadId) -> u32
+    pub(crate) fn of(&self, thread: ThreadId) -> u32
         ensures { λ r. ⌜ r ≡ count-of (now (self .entry) .cells) (thread .number) ⌝ }
     {
         let place = thread.index();
@@ -25,7 +25,7 @@ impl Counts {
     }
 
     // Raises the count of a thread by so much.
-    pub fn raise(&mut self, thread: ThreadId, by: u32)
+    pub(crate) fn raise(&mut self, thread: ThreadId, by: u32)
         ensures { λ _. ⌜ now (self .exit) .cells ≡ grown (now (self .entry) .cells) (thread .number) by ⌝ }
     {
         let raised = self.of(thread).saturating_add(by);
@@ -33,14 +33,14 @@ impl Counts {
     }
 
     // Returns the count of a thread to 0.
-    pub fn clear(&mut self, thread: ThreadId)
+    pub(crate) fn clear(&mut self, thread: ThreadId)
         ensures { λ _. ⌜ now (self .exit) .cells ≡ cleared (now (self .entry) .cells) (thread .number) ⌝ }
     {
         self.cells[thread.index()] = 0;
     }
 
     // Whether the first thread has the higher count, or the lower number at equal counts.
-    pub fn outranks(&self, first: ThreadId, second: ThreadId) -> bool
+    pub(crate) fn outranks(&self, first: ThreadId, second: ThreadId) -> bool
         ensures { λ r. ⌜ r ≡ outranks (now (self .entry) .cells) (first .number) (second .number) ⌝ }
     {
         let mine = self.of(first);
