@@ -64,6 +64,9 @@ fn meaning(refusal: Refusal) -> &'static str {
         Refusal::NoSuchPlace => "no such address or stripe",
         Refusal::LogFull => "the log has no room left",
         Refusal::StripeBusy => "busy, another thread has sealed and still drains",
+        Refusal::RollNotDue => "the clock is not spent yet",
+        Refusal::ThreadsActive => "a thread still has a transaction",
+        Refusal::AlreadyClaimed => "the thread's ticket is given out",
     }
 }
 
