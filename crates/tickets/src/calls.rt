@@ -1,0 +1,10 @@
+mod back;
+mod begin;
+mod claim;
+mod drain;
+mod hand_in;
+mod load;
+mod new;
+mod numbered;
+mod seal;
+mod store;

@@ -1,0 +1,6 @@
+// A memory whose threads are given out as tickets: a task holds a ticket in place of a thread number, and what its
+// transaction is not ready for does not build.
+mod calls;
+pub mod outcomes;
+pub mod tasks;
+pub mod ticket;
