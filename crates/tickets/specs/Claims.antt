@@ -5,8 +5,11 @@ use mathlib.Core.Bool.{Bool, true, false}
 use mathlib.Core.List.{List}
 use Rattle.common.specs.declared.refusal.Refusal.{Refusal}
 use Rattle.common.specs.declared.refusal.Refusal.the-variants.{AlreadyClaimed}
+use Rattle.common.specs.Threads.{thread-number}
 use Rattle.layout.specs.SetUps.{thread-or-refusal}
 use Rattle.layout.specs.declared.set_up.SetUp.{SetUp}
+use Rattle.std.specs.declared.option.Option.{Option}
+use Rattle.std.specs.declared.option.Option.the-variants.{Some, None}
 use Rattle.std.specs.declared.result.Result.{Result}
 use Rattle.std.specs.declared.result.Result.the-variants.{Ok, Err}
 
@@ -18,9 +21,13 @@ unclaimed = replicate 8 false
 abbrev pub is-claimed : List Bool → ℕ → Bool
 is-claimed cs n = getD cs (n - 1) false
 
--- the thread's ticket handed in: where it was not given out, all claims are as they were
+-- the claims without that of a thread, if there is one of this number: a thread that is not claimed stays so
+abbrev pub freed : List Bool → Option ℕ → List Bool
+freed cs None = cs
+freed cs (Some n) = set cs (n - 1) false
+
 abbrev pub handed-in : List Bool → ℕ → List Bool
-handed-in cs n = set cs (n - 1) false
+handed-in cs n = freed cs (thread-number n)
 
 -- the thread whose ticket is given, unless it was given out before
 abbrev pub claim-once : ℕ → Bool → Result ℕ Refusal

@@ -20,7 +20,7 @@ use Rattle.tickets.specs.declared.ticket.OpenTicket.{OpenTicket}
 
 -- claim: the number of the thread whose ticket is given
 abbrev pub claim-given : Result IdleTicket Refusal → Result ℕ Refusal
-claim-given r = mapped (λ t. t .0 .number) (λ e. e) r
+claim-given r = mapped (λ t. t .0) (λ e. e) r
 
 -- begin
 
@@ -29,8 +29,8 @@ begin-given (Ok t) = Ok tt
 begin-given (Err k) = Err (k .reason)
 
 abbrev pub begin-left : Result OpenTicket (Kept IdleTicket Refusal) → Hand
-begin-left (Ok t) = running (t .0 .number)
-begin-left (Err k) = idle (k .ticket .0 .number)
+begin-left (Ok t) = running (t .0)
+begin-left (Err k) = idle (k .ticket .0)
 
 -- seal
 
@@ -39,8 +39,8 @@ sealing (Reader t snapshot) = ReaderSeal snapshot
 sealing (Updater t number) = UpdaterSeal number
 
 abbrev pub sealing-left : Sealing → Hand
-sealing-left (Reader t snapshot) = idle (t .0 .number)
-sealing-left (Updater t number) = sealed (t .0 .number)
+sealing-left (Reader t snapshot) = idle (t .0)
+sealing-left (Updater t number) = sealed (t .0)
 
 abbrev pub seal-given : Result Sealing (Kept OpenTicket Stop) → Result Seal Stop
 seal-given (Ok s) = Ok (sealing s)
@@ -48,7 +48,7 @@ seal-given (Err k) = Err (k .reason)
 
 abbrev pub seal-left : Result Sealing (Kept OpenTicket Stop) → Hand
 seal-left (Ok s) = sealing-left s
-seal-left (Err k) = running (k .ticket .0 .number)
+seal-left (Err k) = running (k .ticket .0)
 
 -- drain
 
@@ -57,8 +57,8 @@ draining (More t left) = left
 draining (All t) = 0
 
 abbrev pub draining-left : Drained → Hand
-draining-left (More t left) = sealed (t .0 .number)
-draining-left (All t) = idle (t .0 .number)
+draining-left (More t left) = sealed (t .0)
+draining-left (All t) = idle (t .0)
 
 abbrev pub drain-given : Result Drained (Kept IdleTicket Refusal) → Result ℕ Refusal
 drain-given (Ok d) = Ok (draining d)
@@ -66,7 +66,7 @@ drain-given (Err k) = Err (k .reason)
 
 abbrev pub drain-left : Result Drained (Kept IdleTicket Refusal) → Hand
 drain-left (Ok d) = draining-left d
-drain-left (Err k) = idle (k .ticket .0 .number)
+drain-left (Err k) = idle (k .ticket .0)
 
 -- back
 
@@ -75,5 +75,15 @@ back-given (Ok e) = Ok (e .ending)
 back-given (Err k) = Err (k .reason)
 
 abbrev pub back-left : Result Ended (Kept OpenTicket Refusal) → Hand
-back-left (Ok e) = idle (e .ticket .0 .number)
-back-left (Err k) = running (k .ticket .0 .number)
+back-left (Ok e) = idle (e .ticket .0)
+back-left (Err k) = running (k .ticket .0)
+
+-- drains to the end: no word is left, or the drain is refused
+
+abbrev pub finish-given : Result IdleTicket (Kept IdleTicket Refusal) → Result ℕ Refusal
+finish-given (Ok t) = Ok 0
+finish-given (Err k) = Err (k .reason)
+
+abbrev pub finish-left : Result IdleTicket (Kept IdleTicket Refusal) → Hand
+finish-left (Ok t) = idle (t .0)
+finish-left (Err k) = idle (k .ticket .0)

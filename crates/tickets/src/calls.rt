@@ -2,6 +2,7 @@ mod back;
 mod begin;
 mod claim;
 mod drain;
+mod drain_all;
 mod hand_in;
 mod load;
 mod new;

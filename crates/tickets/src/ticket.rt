@@ -1,18 +1,17 @@
 ghost use mathlib.Core.Path.{_≡_};
-use common::thread_id::ThreadId;
 
 // The ticket of a thread without a transaction: it begins one, or is handed in.
 // It may be let go; its thread then stays claimed.
 #[derive(Drop)]
-pub struct IdleTicket(ThreadId);
+pub struct IdleTicket(u32);
 
 // The ticket of a thread with a transaction: it loads and stores, and then seals or goes back.
 // It may be let go; its transaction then stays as it is, until a numbered call ends it.
 #[derive(Drop)]
-pub struct OpenTicket(ThreadId);
+pub struct OpenTicket(u32);
 
 // The ticket of a thread whose words are to be drained: it drains until none is left, and may not be let go.
-pub struct SealedTicket(ThreadId);
+pub struct SealedTicket(u32);
 
 // Nothing meets what this asks, so that a program that lets a sealed ticket go does not build.
 impl Drop for SealedTicket {
@@ -25,14 +24,14 @@ impl Drop for SealedTicket {
 
 impl IdleTicket {
     // The first ticket of a thread, for a claim. Every other ticket is made of the one that a call is given.
-    pub(crate) fn new(thread: ThreadId) -> IdleTicket
+    pub(crate) fn new(thread: u32) -> IdleTicket
         ensures { λ r. ⌜ r .0 ≡ thread ⌝ }
     {
         IdleTicket(thread)
     }
 
-    // The thread that it is for.
-    pub(crate) fn thread(&self) -> ThreadId
+    // The number of the thread that it is for.
+    pub(crate) fn thread(&self) -> u32
         ensures { λ r. ⌜ r ≡ now (self .entry) .0 ⌝ }
     {
         self.0
@@ -47,8 +46,8 @@ impl IdleTicket {
 }
 
 impl OpenTicket {
-    // The thread that it is for.
-    pub(crate) fn thread(&self) -> ThreadId
+    // The number of the thread that it is for.
+    pub(crate) fn thread(&self) -> u32
         ensures { λ r. ⌜ r ≡ now (self .entry) .0 ⌝ }
     {
         self.0
@@ -70,8 +69,8 @@ impl OpenTicket {
 }
 
 impl SealedTicket {
-    // The thread that it is for.
-    pub(crate) fn thread(&self) -> ThreadId
+    // The number of the thread that it is for.
+    pub(crate) fn thread(&self) -> u32
         ensures { λ r. ⌜ r ≡ now (self .entry) .0 ⌝ }
     {
         self.0

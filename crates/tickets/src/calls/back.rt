@@ -15,12 +15,11 @@ use stores::word_store::WordStore;
 impl<S: WordStore, P: Policy> Tasks<S, P> {
     // Ends the ticket's running or lost transaction, which leaves nothing of it. A refused back leaves the ticket open.
     pub fn back(&mut self, ticket: OpenTicket) -> Result<Ended, Kept<OpenTicket, Refusal>>
-        ensures did { λ r. ⌜ Did words home moved (now (self .entry) .memory) (now (self .exit) .memory) (back-answer (back-given r)) (back (world words (now (self .entry) .memory)) (ticket .0 .number)) ⌝ }
-        ensures hand { λ r. ⌜ back-left r ≡ back-hand (ticket .0 .number) (back-given r) ⌝ }
+        ensures did { λ r. ⌜ Did words home moved (now (self .entry) .memory) (now (self .exit) .memory) (back-answer (back-given r)) (back (world words (now (self .entry) .memory)) (ticket .0)) ⌝ }
+        ensures hand { λ r. ⌜ back-left r ≡ back-hand (ticket .0) (back-given r) ⌝ }
         ensures claims { λ _. ⌜ now (self .exit) .claims ≡ now (self .entry) .claims ⌝ }
     {
-        let thread = ticket.thread();
-        match self.memory.back(thread.number()) {
+        match self.memory.back(ticket.thread()) {
             Ok(ending) => Ok(Ended {
                 ticket: ticket.into_idle(),
                 ending,

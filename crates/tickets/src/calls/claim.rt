@@ -18,6 +18,6 @@ impl<S, P> Tasks<S, P> {
             return Err(Refusal::AlreadyClaimed);
         }
         self.claims[id.index()] = true;
-        Ok(IdleTicket::new(id))
+        Ok(IdleTicket::new(thread))
     }
 }

@@ -17,12 +17,11 @@ impl<S: WordStore, P: Policy> Tasks<S, P> {
     // Writes the next word of the ticket's transaction to the store. The ticket is idle once no word is left, and
     // where the drain is refused: its thread is then not sealed in this memory.
     pub fn drain(&mut self, ticket: SealedTicket) -> Result<Drained, Kept<IdleTicket, Refusal>>
-        ensures did { λ r. ⌜ Did words home moved (now (self .entry) .memory) (now (self .exit) .memory) (drain-answer (drain-given r)) (drain (world words (now (self .entry) .memory)) (ticket .0 .number)) ⌝ }
-        ensures hand { λ r. ⌜ drain-left r ≡ drain-hand (ticket .0 .number) (drain-given r) ⌝ }
+        ensures did { λ r. ⌜ Did words home moved (now (self .entry) .memory) (now (self .exit) .memory) (drain-answer (drain-given r)) (drain (world words (now (self .entry) .memory)) (ticket .0)) ⌝ }
+        ensures hand { λ r. ⌜ drain-left r ≡ drain-hand (ticket .0) (drain-given r) ⌝ }
         ensures claims { λ _. ⌜ now (self .exit) .claims ≡ now (self .entry) .claims ⌝ }
     {
-        let thread = ticket.thread();
-        match self.memory.drain(thread.number()) {
+        match self.memory.drain(ticket.thread()) {
             Ok(0) => Ok(Drained::All(ticket.into_idle())),
             Ok(left) => Ok(Drained::More { ticket, left }),
             Err(reason) => Err(Kept {

@@ -17,12 +17,11 @@ impl<S: WordStore, P: Policy> Tasks<S, P> {
     // Seals the ticket's transaction: a reader is done, an updater is to be drained.
     // A seal that is refused or lost leaves the ticket open.
     pub fn seal(&mut self, ticket: OpenTicket) -> Result<Sealing, Kept<OpenTicket, Stop>>
-        ensures did { λ r. ⌜ Did words home moved (now (self .entry) .memory) (now (self .exit) .memory) (seal-answer (seal-given r)) (seal (world words (now (self .entry) .memory)) (ticket .0 .number)) ⌝ }
-        ensures hand { λ r. ⌜ seal-left r ≡ seal-hand (ticket .0 .number) (seal-given r) ⌝ }
+        ensures did { λ r. ⌜ Did words home moved (now (self .entry) .memory) (now (self .exit) .memory) (seal-answer (seal-given r)) (seal (world words (now (self .entry) .memory)) (ticket .0)) ⌝ }
+        ensures hand { λ r. ⌜ seal-left r ≡ seal-hand (ticket .0) (seal-given r) ⌝ }
         ensures claims { λ _. ⌜ now (self .exit) .claims ≡ now (self .entry) .claims ⌝ }
     {
-        let thread = ticket.thread();
-        match self.memory.seal(thread.number()) {
+        match self.memory.seal(ticket.thread()) {
             Ok(Sealed::Reader { snapshot }) => Ok(Sealing::Reader {
                 ticket: ticket.into_idle(),
                 snapshot,

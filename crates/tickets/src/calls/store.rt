@@ -11,10 +11,9 @@ use stores::word_store::WordStore;
 impl<S: WordStore, P: Policy> Tasks<S, P> {
     // Has the ticket's transaction write a word at an address. The ticket stays open, also where the store is lost.
     pub fn store(&mut self, ticket: &OpenTicket, address: u32, word: u32) -> Result<(), Stop>
-        ensures did { λ r. ⌜ Did words home moved (now (self .entry) .memory) (now (self .exit) .memory) (store-answer r) (store (table (now (self .entry) .memory .policy)) (world words (now (self .entry) .memory)) (now (ticket .entry) .0 .number) address word) ⌝ }
+        ensures did { λ r. ⌜ Did words home moved (now (self .entry) .memory) (now (self .exit) .memory) (store-answer r) (store (table (now (self .entry) .memory .policy)) (world words (now (self .entry) .memory)) (now (ticket .entry) .0) address word) ⌝ }
         ensures claims { λ _. ⌜ now (self .exit) .claims ≡ now (self .entry) .claims ⌝ }
     {
-        let thread = ticket.thread();
-        self.memory.store(thread.number(), address, word)
+        self.memory.store(ticket.thread(), address, word)
     }
 }
