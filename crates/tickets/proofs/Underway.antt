@@ -38,18 +38,6 @@ still-sealed m n left e = go (eqb left 0) refl
         let some : left ≡ 0 → ⊥ = eqb-false left 0 p in
         (cc, omega (arith, some))
 
--- the same of what a drain gave
-pub more-hand : (d : Drained) (n : ℕ) (t : SealedTicket) (k : ℕ) → d ≡ More t k →
-    draining-left d ≡ cond (eqb (draining d) 0) (idle n) (sealed n) → (t .0 ≡ n) × (0 < k)
-more-hand d n t k e h =
-    still-sealed (t .0) n k
-    (ap draining-left (sym e) ∙ h ∙ ap (λ (x : Drained). cond (eqb (draining x) 0) (idle n) (sealed n)) e)
-
-pub all-hand : (d : Drained) (n : ℕ) (t : IdleTicket) → d ≡ All t →
-    draining-left d ≡ cond (eqb (draining d) 0) (idle n) (sealed n) → idle (t .0) ≡ idle n
-all-hand d n t e h =
-    ap draining-left (sym e) ∙ h ∙ ap (λ (x : Drained). cond (eqb (draining x) 0) (idle n) (sealed n)) e
-
 module _ {S P : Type 0} (words : S → List ℕ) (home : S → Home) (moved : P → Event → P) where
   -- what is due from now on is what was due at the start; drains tell nothing, and the words stay where they lie
   pub record Underway (start now : Memory S P) (n m : ℕ) : Type 0 where
@@ -58,59 +46,66 @@ module _ {S P : Type 0} (words : S → List ℕ) (home : S → Home) (moved : P 
     pub untold : now .policy ≡ start .policy
     pub lender : home (now .words) ≡ home (start .words)
 
-  -- what is known of a drain's answer holds of the words left in what it gave
-  pub did-so : (now after : Memory S P) (m k : ℕ) (d : Drained) → draining d ≡ k →
-      Did words home moved now after (Left (draining d)) (drain (world words now) m) →
-      Did words home moved now after (Left k) (drain (world words now) m)
-  did-so now after m k d e made =
-      subst (λ (j : ℕ). Did words home moved now after (Left j) (drain (world words now) m)) e made
-
-  -- a drain that leaves words
-  module _ (now after : Memory S P) (m k : ℕ) (d : Did words home moved now after (Left k) (drain (world words now) m)) (h : 0 < k) where
-    pub goes-on : (start : Memory S P) (n l : ℕ) → l ≡ m → Underway start now n m → Underway start after n l
-    goes-on start n l e u = record {
-      thread = e ∙ u .thread;
-      due =
-          ap (drain-all (world words after)) e
-          ∙ ap (λ (w : World). drain-all w m) (d .left)
-          ∙ sym (all-by-more (world words now) m k (sym (d .answered)) h)
-          ∙ u .due;
-      untold =
-          d .told ∙ ap (after-events moved (now .policy)) (counted (world words now) m .told) ∙ u .untold;
-      lender = d .lender ∙ u .lender;
-    }
-
-    pub falls : (l : ℕ) → l ≡ m → words-left (world words after) l < words-left (world words now) m
-    falls l e =
+  -- the drain that is made next, by what it gave
+  module _ (start now after : Memory S P) (n m : ℕ) (u : Underway start now n m) where
+    -- words are left, fewer than before
+    more-left : (l k : ℕ) → l ≡ m → 0 < k → Did words home moved now after (Left k) (drain (world words now) m) →
+        Underway start after n l × (words-left (world words after) l < words-left (world words now) m)
+    more-left l k e h d =
         let both = counted (world words now) m .more k (sym (d .answered)) h in
         let same : words-left (world words after) l ≡ words-left (drain (world words now) m .after) m =
-        ap (words-left (world words after)) e ∙ ap (λ (w : World). words-left w m) (d .left) in
-        omega (arith, both .0, both .1)
+        ap (words-left (world words after)) e ∙ ap (λ (w : World). words-left w m) (d .left) in (
+          record {
+            thread = e ∙ u .thread;
+            due =
+                ap (drain-all (world words after)) e
+                ∙ ap (λ (w : World). drain-all w m) (d .left)
+                ∙ sym (all-by-more (world words now) m k (sym (d .answered)) h)
+                ∙ u .due;
+            untold = d .told ∙ ap (after-events moved (now .policy)) (counted (world words now) m .told) ∙ u .untold;
+            lender = d .lender ∙ u .lender;
+          },
+          omega (arith, both .0, both .1),
+        )
 
-  -- the last drain
-  pub ends : (start now after : Memory S P) (n m : ℕ) (a : Answer) → words-left (world words now) m ≤ 1 →
-      Did words home moved now after a (drain (world words now) m) → Underway start now n m →
-      Did words home moved start after a (drain-all (world words start) n)
-  ends start now after n m a h d u =
-      let e = sym (all-by-one (world words now) m h) ∙ u .due in record {
-        answered = d .answered ∙ ap (λ (o : Outcome). o .answer) e;
-        left = d .left ∙ ap (λ (o : Outcome). o .after) e;
-        told =
-            d .told
-            ∙ ap (λ (p : P). after-events moved p (drain (world words now) m .told)) (u .untold)
-            ∙ ap (λ (o : Outcome). after-events moved (start .policy) (o .told)) e;
-        lender = d .lender ∙ u .lender;
-      }
+    -- one word or none was left, so that this drain was the last
+    ends : (a : Answer) → words-left (world words now) m ≤ 1 →
+        Did words home moved now after a (drain (world words now) m) →
+        Did words home moved start after a (drain-all (world words start) n)
+    ends a h d =
+        let e = sym (all-by-one (world words now) m h) ∙ u .due in record {
+          answered = d .answered ∙ ap (λ (o : Outcome). o .answer) e;
+          left = d .left ∙ ap (λ (o : Outcome). o .after) e;
+          told =
+              d .told
+              ∙ ap (λ (p : P). after-events moved p (drain (world words now) m .told)) (u .untold)
+              ∙ ap (λ (o : Outcome). after-events moved (start .policy) (o .told)) e;
+          lender = d .lender ∙ u .lender;
+        }
 
-  pub ends-empty : (start now after : Memory S P) (n m : ℕ) →
-      Did words home moved now after (Left 0) (drain (world words now) m) → Underway start now n m →
-      Did words home moved start after (Left 0) (drain-all (world words start) n)
-  ends-empty start now after n m d u =
-      ends start now after n m (Left 0) (counted (world words now) m .last (sym (d .answered))) d u
+    pub ends-refused : (r : Refusal) → Did words home moved now after (Refused r) (drain (world words now) m) →
+        Did words home moved start after (Refused r) (drain-all (world words start) n)
+    ends-refused r d =
+        let none = counted (world words now) m .refused r (sym (d .answered)) in
+        ends (Refused r) (omega (arith, none)) d
 
-  pub ends-refused : (start now after : Memory S P) (n m : ℕ) (r : Refusal) →
-      Did words home moved now after (Refused r) (drain (world words now) m) → Underway start now n m →
-      Did words home moved start after (Refused r) (drain-all (world words start) n)
-  ends-refused start now after n m r d u =
-      let none = counted (world words now) m .refused r (sym (d .answered)) in
-      ends start now after n m (Refused r) (omega (arith, none)) d u
+    -- what the drain gave, and the ticket in it
+    module _ (x : Drained) (d : Did words home moved now after (Left (draining x)) (drain (world words now) m))
+        (hand : draining-left x ≡ cond (eqb (draining x) 0) (idle m) (sealed m)) where
+      did-so : (y : Drained) → x ≡ y → Did words home moved now after (Left (draining y)) (drain (world words now) m)
+      did-so y e = subst (λ (z : Drained). Did words home moved now after (Left (draining z)) (drain (world words now) m)) e d
+
+      hand-so : (y : Drained) → x ≡ y → draining-left y ≡ cond (eqb (draining y) 0) (idle m) (sealed m)
+      hand-so y e = subst (λ (z : Drained). draining-left z ≡ cond (eqb (draining z) 0) (idle m) (sealed m)) e hand
+
+      pub goes-on : (t : SealedTicket) (k : ℕ) → x ≡ More t k →
+          Underway start after n (t .0) × (words-left (world words after) (t .0) < words-left (world words now) m)
+      goes-on t k e =
+          let own = still-sealed (t .0) m k (hand-so (More t k) e) in more-left (t .0) k (own .0) (own .1) (did-so (More t k) e)
+
+      pub ends-empty : (t : IdleTicket) → x ≡ All t →
+          Did words home moved start after (Left 0) (drain-all (world words start) n) × (idle (t .0) ≡ idle n)
+      ends-empty t e = (
+        ends (Left 0) (counted (world words now) m .last (sym (did-so (All t) e .answered))) (did-so (All t) e),
+        hand-so (All t) e ∙ ap idle (u .thread),
+      )
