@@ -35,3 +35,8 @@ drains (suc more) w n = drains more (drain w n .after) n
 -- as many drains as words are left, and at least one
 unfoldable pub drain-all : World → ℕ → Outcome
 drain-all w n = drains (words-left w n - 1) w n
+
+-- that no word is left, or why a drain was refused, as a drain says it
+abbrev pub none-left : Result (Unit {0}) Refusal → Result ℕ Refusal
+none-left (Ok _) = Ok 0
+none-left (Err r) = Err r

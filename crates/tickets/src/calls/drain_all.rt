@@ -1,16 +1,16 @@
 ghost use mathlib.Core.Path.{_≡_};
 ghost use Rattle.memory.specs.Memories.{Did, world};
 ghost use Rattle.rules.specs.Answers.{drain-answer};
-ghost use Rattle.tickets.specs.Drains.{drain-all};
+ghost use Rattle.tickets.specs.Drains.{drain-all, none-left};
 ghost use Rattle.tickets.specs.Given.{finish-given, finish-left};
 ghost use Rattle.tickets.specs.Hands.{idle};
-use crate::outcomes::Drained;
 use crate::outcomes::Kept;
 use crate::tasks::Tasks;
 use crate::ticket::IdleTicket;
 use crate::ticket::SealedTicket;
 use common::refusal::Refusal;
 use contention::policy::Policy;
+use memory::memory::Memory;
 use stores::word_store::WordStore;
 
 impl<S: WordStore, P: Policy> Tasks<S, P> {
@@ -23,18 +23,31 @@ impl<S: WordStore, P: Policy> Tasks<S, P> {
         ensures hand { λ r. ⌜ finish-left r ≡ idle (ticket .0) ⌝ }
         ensures claims { λ _. ⌜ now (self .exit) .claims ≡ now (self .entry) .claims ⌝ }
     {
-        let mut ticket = ticket;
-        loop {
-            match self.drain(ticket) {
-                Ok(drained) => match drained {
-                    Drained::More {
-                        ticket: sealed,
-                        left: _,
-                    } => ticket = sealed,
-                    Drained::All(idle) => return Ok(idle),
-                },
-                Err(kept) => return Err(kept),
+        match drain_words(&mut self.memory, ticket.thread()) {
+            Ok(()) => Ok(ticket.into_idle()),
+            Err(reason) => Err(Kept {
+                ticket: ticket.into_idle(),
+                reason,
+            }),
+        }
+    }
+}
+
+// Drains a thread until no word is left, or a drain is refused.
+fn drain_words<S: WordStore, P: Policy>(
+    memory: &mut Memory<S, P>,
+    thread: u32,
+) -> Result<(), Refusal>
+    ensures { λ r. ⌜ Did words home moved (now (memory .entry)) (now (memory .exit)) (drain-answer (none-left r)) (drain-all (world words (now (memory .entry))) thread) ⌝ }
+{
+    loop {
+        match memory.drain(thread) {
+            Ok(left) => {
+                if left == 0 {
+                    return Ok(());
+                }
             }
+            Err(reason) => return Err(reason),
         }
     }
 }
