@@ -1,7 +1,7 @@
 -- The numbers of refusals and losses: one table for contracts, console and documents.
 use Prim.Native.Nat.{ℕ}
 use Rattle.common.specs.declared.refusal.Refusal.{Refusal}
-use Rattle.common.specs.declared.refusal.Refusal.the-variants.{ThreadCount, StripeCount, Shift, ClockLimit, LockWord, NoSuchThread, WrongState, AlreadyLost, RollPending, NoSuchPlace, LogFull, StripeBusy, RollNotDue, ThreadsActive}
+use Rattle.common.specs.declared.refusal.Refusal.the-variants.{ThreadCount, StripeCount, Shift, ClockLimit, LockWord, NoSuchThread, WrongState, AlreadyLost, RollPending, NoSuchPlace, LogFull, StripeBusy, RollNotDue, ThreadsActive, AlreadyClaimed}
 use Rattle.common.specs.declared.loss.Loss.{Loss}
 use Rattle.common.specs.declared.loss.Loss.the-variants.{Beaten, Invalid, ClockSpent, Stolen}
 
@@ -21,6 +21,7 @@ refusal-number LogFull = 16
 refusal-number StripeBusy = 17
 refusal-number RollNotDue = 18
 refusal-number ThreadsActive = 19
+refusal-number AlreadyClaimed = 31
 
 -- the number of a loss
 abbrev pub loss-cause : Loss → ℕ

@@ -32,6 +32,8 @@ pub enum Refusal {
     RollNotDue = 18,
     // A roll while a thread is not idle.
     ThreadsActive = 19,
+    // A claim of a thread whose ticket was given out and not handed in.
+    AlreadyClaimed = 31,
 }
 
 impl Refusal {

@@ -66,6 +66,7 @@ fn meaning(refusal: Refusal) -> &'static str {
         Refusal::StripeBusy => "busy, another thread has sealed and still drains",
         Refusal::RollNotDue => "the clock is not spent",
         Refusal::ThreadsActive => "a thread is not idle",
+        Refusal::AlreadyClaimed => "the thread's ticket is given out",
     }
 }
 

@@ -8,4 +8,5 @@ mod peek;
 mod perform;
 mod roll;
 mod seal;
+mod set_up;
 mod store;

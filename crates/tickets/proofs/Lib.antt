@@ -1,0 +1,2 @@
+mod Drains
+mod Underway

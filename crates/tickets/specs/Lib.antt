@@ -1,0 +1,4 @@
+pub mod Claims
+pub mod Drains
+pub mod Given
+pub mod Hands

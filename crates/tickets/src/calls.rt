@@ -1,0 +1,11 @@
+mod back;
+mod begin;
+mod claim;
+mod drain;
+mod drain_all;
+mod hand_in;
+mod load;
+mod new;
+mod numbered;
+mod seal;
+mod store;
