@@ -1,5 +1,6 @@
 // Shows what the memory does for the tasks of a drive: one printed line for each call, with its answer.
 mod answers;
+mod by_ticket;
 mod drive;
 mod keypad_change;
 mod names;
@@ -24,5 +25,6 @@ fn run(rt: &LibcRuntime) -> io::Result<()> {
     parked_keypad::show(rt)?;
     patient_fieldbus::show(rt)?;
     refusals::show(rt)?;
-    roll_over::show(rt)
+    roll_over::show(rt)?;
+    by_ticket::show(rt)
 }
