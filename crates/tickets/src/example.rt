@@ -8,8 +8,11 @@ use rules::stop::Stop;
 use rules::stop::StopFromRefusal;
 use stores::word_store::WordStore;
 
+#[cfg(test)]
+mod tests;
+
 // Changes one word as a keypad does, from the claim of its thread to the hand-in of its ticket.
-pub(crate) fn change<S: WordStore, P: Policy>(
+fn change<S: WordStore, P: Policy>(
     tasks: &mut Tasks<S, P>,
     thread: u32,
     address: u32,

@@ -1,4 +1,3 @@
-use crate::example::change;
 use crate::outcomes::Sealing;
 use crate::tasks::Tasks;
 use common::refusal::Refusal;
@@ -69,20 +68,4 @@ fn a_reader_has_its_ticket_back_and_begins_again() -> Result<(), Fail> {
         }
         Err(_) => Err(Fail::new("refused or lost")),
     }
-}
-
-#[test]
-fn a_keypad_changes_two_words() -> Result<(), Fail> {
-    let mut cells = [0u32; 4];
-    let set_up = SetUp::new(2, 4, 0, 9)?;
-    let mut tasks = Tasks::new(set_up, PlainStore::new(&mut cells), Suicide);
-    change(&mut tasks, 1, 0, 1450)?;
-    change(&mut tasks, 1, 3, 95_000)?;
-    check_eq(
-        change(&mut tasks, 1, 4, 1),
-        Err(Stop::Refused(Refusal::NoSuchPlace)),
-    )?;
-    let _ = tasks.into_parts();
-    check_eq(cells[0], 1450)?;
-    check_eq(cells[3], 95_000)
 }
