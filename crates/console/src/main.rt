@@ -1,4 +1,6 @@
 // Answers a script of forms: the file that the command line names, or standard input, line by line as it comes.
+#![tactic(auto)]
+
 mod feed;
 mod serve;
 mod whole;

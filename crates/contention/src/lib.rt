@@ -1,4 +1,6 @@
 // Contention policies: which of two threads that want one stripe goes on.
+#![tactic(auto)]
+
 pub mod aggressive;
 pub mod counts;
 pub mod karma;

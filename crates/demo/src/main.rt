@@ -1,4 +1,6 @@
 // Shows what the memory does for the tasks of a drive: one printed line for each call, with its answer.
+#![tactic(auto)]
+
 mod answers;
 mod by_ticket;
 mod drive;

@@ -1,4 +1,6 @@
 // The pieces that an engine is made of: its set-up, its stripes, its logs with their one lookup, and its lock words.
+#![tactic(auto)]
+
 pub mod entries;
 pub mod keyed;
 pub mod lock_word;

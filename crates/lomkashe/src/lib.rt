@@ -1,4 +1,6 @@
 // The console for programs in other languages: one call on byte buffers.
+#![tactic(auto)]
+
 ghost use Rattle.std.specs.Prelude.{◌≡◌, length};
 ghost use Rattle.lomkashe.specs.Signed.{length_or_refusal};
 ghost use Rattle.session.specs.Runs.{script_answer, script_output};

@@ -1,4 +1,6 @@
 // A transactional word memory: words in any store, contention by any policy, six calls by thread number.
+#![tactic(auto)]
+
 mod calls;
 mod engine;
 pub mod memory;

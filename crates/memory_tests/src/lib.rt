@@ -1,4 +1,6 @@
 // What users try first on a memory, as tests. The library itself is proved; these show that it is the one they expect.
+#![tactic(auto)]
+
 #[cfg(test)]
 mod edges;
 #[cfg(test)]

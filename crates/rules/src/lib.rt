@@ -1,4 +1,6 @@
 // What every call answers and leaves, as definitions (in specs/), with the enums in which callers meet it.
+#![tactic(auto)]
+
 pub mod answer;
 pub mod call;
 pub mod ending;

@@ -1,4 +1,6 @@
 // A script of forms, answered line by line: before an engine is made, and then on a memory of any store and policy.
+#![tactic(auto)]
+
 pub mod opening;
 pub mod reply;
 pub mod run;

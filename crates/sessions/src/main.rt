@@ -1,4 +1,6 @@
 // Runs scripts through the console's script run, and prints each line with its answer.
+#![tactic(auto)]
+
 use session::run::run_script;
 use std::fs;
 use std::io::Write;

@@ -1,4 +1,6 @@
 // Word stores: memory that is read and written one word of 32 bits at a time.
+#![tactic(auto)]
+
 pub mod lent;
 pub mod plain;
 pub mod register;

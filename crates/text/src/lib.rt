@@ -1,4 +1,6 @@
 // The text of a script: its lines, which bytes may follow each other in one, and the tokens of a line.
+#![tactic(auto)]
+
 pub mod class;
 pub mod cursor;
 pub mod line;
