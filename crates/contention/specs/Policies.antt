@@ -2,7 +2,6 @@
 use Rattle.std.specs.Prelude.{ℕ, ◌+◌, Bool, false, not, List, ◌==◌}
 use Rattle.contention.specs.Events.{Event, word_loaded, stripe_taken, win_over, seal_of}
 use Rattle.contention.specs.Ranks.{no_counts, count_of, grown, cleared, outranks}
-use Rattle.contention.specs.declared.counts.Counts.{Counts}
 use Rattle.contention.specs.declared.karma.Karma.{Karma}
 use Rattle.contention.specs.declared.kill_prio.KillPrio.{KillPrio}
 use Rattle.contention.specs.declared.policy.Points.{Points}

@@ -96,7 +96,7 @@ module _ (ws : List ℕ) (base : ℕ) (w : World) (h : History) (beats : Table) 
   back_caller : at back_threads n ≡ with_phase (thread_of w.engine n) Idle
   back_caller = at_put_same w.engine.threads n (with_phase (thread_of w.engine n) Idle)
 
-  -- the thread of no owner is idle, since the set_up does not have it
+  -- the thread of no owner is idle, since the set-up does not have it
   no_owner_idle : (thread_of w.engine 0).phase ≡ Idle
   no_owner_idle = (f.seats 0).inside refl
 

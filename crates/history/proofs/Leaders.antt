@@ -37,7 +37,7 @@ leads_up_to beats n m (suc t) e low high d =
     go before (inr (inl l)) = before (omega arith)
     go before (inr (inr l)) = absurd (omega arith)
 
--- a leader beats each other thread of the set_up, and none of them beats it
+-- a leader beats each other thread of the set-up, and none of them beats it
 pub leader_beats : (u : SetUp) (beats : Table) (n m : ℕ) → leads beats n u.threads ≡ true → is_thread u m ≡ true → (m ≡ n → ⊥) →
     (beats n m ≡ true) × (beats m n ≡ false)
 leader_beats u beats n m led inside d =

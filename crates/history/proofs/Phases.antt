@@ -13,7 +13,7 @@ use Rattle.rules.specs.declared.phase.Phase.{Phase}
 use Rattle.rules.specs.declared.phase.Phase.TheVariants.{Idle, Running, Sealed, Lost}
 use Rattle.std.proofs.lemmas.Bool.{and_parts, both_ways, cases_Bool, leb-true}
 
--- a call that is admitted is of a thread of the set_up, in a state that it is for
+-- a call that is admitted is of a thread of the set-up, in a state that it is for
 pub record Admitted (st : State) (k : Kind) (n : ℕ) : Type 0 where
   pub inside : is_thread st.set_up n ≡ true
   pub fits : is_for k (thread_of st n).phase ≡ true
@@ -54,7 +54,7 @@ idle_phase Running e = absurd (let z : ◌≡◌ {A = ℕ} 0 1 = cc in omega ari
 idle_phase (Sealed t d) e = absurd (let z : ◌≡◌ {A = ℕ} 0 1 = cc in omega arith)
 idle_phase (Lost l) e = absurd (let z : ◌≡◌ {A = ℕ} 0 1 = cc in omega arith)
 
--- a thread of the set_up is not 0
+-- a thread of the set-up is not 0
 pub thread_not_zero : (u : SetUp) (n : ℕ) → is_thread u n ≡ true → n ≡ 0 → ⊥
 thread_not_zero u n e z = both_ways (is_thread u n) (ap (is_thread u) z) e
 
@@ -82,7 +82,7 @@ module _ {u : SetUp} {ws : List ℕ} {us : List Work} {base : ℕ} {fs : ℕ →
   pub lost_fits : (l : Loss) → t.phase ≡ Lost l → LostFits x.work x.fall
   lost_fits l e = subst (λ (p : Phase). PhaseFits u ws us base fs owner n t x.work x.fall p) e s.phase
 
-  -- a running thread is one of the set_up
+  -- a running thread is one of the set-up
   pub running_inside : t.phase ≡ Running → is_thread u n ≡ true
   running_inside e = go (cases_Bool (is_thread u n))
     where

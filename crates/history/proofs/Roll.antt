@@ -47,7 +47,7 @@ module _ (ws : List ℕ) (base : ℕ) (w : World) (h : History) (beats : Table) 
   abbrev rolled_history : History
   rolled_history = then w h beats Roll (done w Done [] (rolled w.engine))
 
-  -- every thread is idle: those of the set_up by the test, all others always
+  -- every thread is idle: those of the set-up by the test, all others always
   all_idle : (n : ℕ) → (thread_of w.engine n).phase ≡ Idle
   all_idle n = go (cases_Bool (is_thread w.engine.set_up n))
     where

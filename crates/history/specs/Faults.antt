@@ -21,11 +21,11 @@ first_words = 1 ∷ 1 ∷ []
 abbrev pub one_ahead : Table
 one_ahead n m = n == 1
 
--- the record keeps the law under each set_up
+-- the record keeps the law under each set-up
 abbrev pub Lawful : List Line → Type 0
 Lawful ls = (u : SetUp) → Law u first_words ls
 
--- the record breaks the law under each set_up
+-- the record breaks the law under each set-up
 abbrev pub Unlawful : List Line → Type 0
 Unlawful ls = (u : SetUp) → Law u first_words ls → ⊥
 

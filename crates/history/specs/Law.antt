@@ -71,6 +71,6 @@ pub record Holds (u : SetUp) (ws : List ℕ) (h : History) : Type 0 where
   pub points_exist : PointsExist ws h
   pub leaders_are_spared : LeadersAreSpared u h
 
--- the law of a record, of an engine with this set_up whose store had these words first
+-- the law of a record, of an engine with this set-up whose store had these words first
 abbrev pub Law : SetUp → List ℕ → List Line → Type 0
 Law u ws ls = Holds u ws (history u ws ls)

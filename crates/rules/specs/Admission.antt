@@ -60,7 +60,7 @@ abbrev pub admission : Kind → Phase → Result (Unit {0}) Refusal
 admission k p =
     cond (is_for k p) (Ok tt) (cond (tells_loss k && is_lost p) (Err AlreadyLost) (Err WrongState))
 
--- a thread number of the set_up
+-- a thread number of the set-up
 abbrev pub is_thread : SetUp → ℕ → Bool
 is_thread u n = nat_le 1 n && nat_le n u.threads
 

@@ -5,7 +5,7 @@ use Rattle.layout.specs.LockWords.{packed}
 use Rattle.layout.specs.SetUps.{stripe_or_refusal}
 use Rattle.rules.specs.States.{State, stripe_at}
 
--- the lock word of a stripe of the set_up
+-- the lock word of a stripe of the set-up
 abbrev pub peek_at : State → Result ℕ Refusal → Result ℕ Refusal
 peek_at st (Err r) = Err r
 peek_at st (Ok s) = packed (stripe_at st s).version (stripe_at st s).owner

@@ -24,7 +24,7 @@ pub record Thread : Type 0 where
   pub reads : List ReadMark
   pub writes : List WriteEntry
 
--- the engine: its set_up, clock and roll mark, its stripes from 0 and its threads from 1
+-- the engine: its set-up, clock and roll mark, its stripes from 0 and its threads from 1
 pub record State : Type 0 where
   pub set_up : SetUp
   pub clock : ℕ

@@ -1,4 +1,4 @@
--- A set_up is known by its four numbers.
+-- A set-up is known by its four numbers.
 use Rattle.std.proofs.Common.{◌≡◌, ℕ, ◌≤◌, Bool, true, false, cond, Ok, Err, Result, sym, refl, ap, ◌∙◌, arith}
 use native.Mathlib.Bridge.{le_prop}
 use Rattle.std.proofs.lemmas.Bool.Decides.{nat_tests}
@@ -32,7 +32,7 @@ same_answer (Ok u) (Err f) e = let z : ◌≡◌ {A = ℕ} 0 1 = cc in absurd (o
 same_answer (Err d) (Ok v) e = let z : ◌≡◌ {A = ℕ} 0 1 = cc in absurd (omega arith)
 same_answer (Err d) (Err f) e = cc
 
--- the set_up of four numbers has these numbers, or there is none for the same reason
+-- the set-up of four numbers has these numbers, or there is none for the same reason
 numbers_limited : (t s h l : ℕ) (a : thread_count t ≡ true) (b : stripe_count s ≡ true) (d : shift_width h ≡ true) (ok : Bool) (e : clock_limit l ≡ ok) → numbers_of (limited t s h l a b d ok e) ≡ set_up_or_refusal t s h l
 numbers_limited t s h l a b d true e = grind (arith, nat_tests)
 numbers_limited t s h l a b d false e = grind (arith, nat_tests)
@@ -49,6 +49,6 @@ numbers_threaded : (t s h l : ℕ) (ok : Bool) (e : thread_count t ≡ ok) → n
 numbers_threaded t s h l true e = numbers_striped t s h l e (stripe_count s) refl
 numbers_threaded t s h l false e = grind (arith, nat_tests)
 
--- whatever has the numbers of the set_up of four numbers is that set_up
+-- whatever has the numbers of the set-up of four numbers is that set-up
 pub is_set_up_of : (t s h l : ℕ) (r : Result SetUp Refusal) → numbers_of r ≡ set_up_or_refusal t s h l → r ≡ set_up_of t s h l
 is_set_up_of t s h l r e = same_answer r (set_up_of t s h l) (e ∙ sym (numbers_threaded t s h l (thread_count t) refl))

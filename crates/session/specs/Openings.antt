@@ -21,7 +21,7 @@ abbrev pub sized_opening : EngineForm → SetUp → Bool → Opening
 sized_opening e u true = Made u e
 sized_opening e u false = Says (Answered (Refused WordCount))
 
--- the set_up counts before the words
+-- the set-up counts before the words
 abbrev pub set_up_opening : EngineForm → Result SetUp Refusal → Opening
 set_up_opening e (Err r) = Says (Answered (Refused r))
 set_up_opening e (Ok u) = sized_opening e u (nat_le e.words 256)

@@ -1,4 +1,4 @@
--- The set_up of four numbers, made with the facts that their tests show.
+-- The set-up of four numbers, made with the facts that their tests show.
 use Rattle.std.specs.Prelude.{◌≡◌, ℕ, Bool, true, false, Ok, Err, Result, nat_le, refl}
 use Rattle.std.proofs.Common.{leb-true}
 use Rattle.common.specs.declared.refusal.Refusal.{Refusal}
@@ -38,6 +38,6 @@ abbrev pub threaded : (t s h l : ℕ) → (ok : Bool) → thread_count t ≡ ok 
 threaded t s h l false no_threads = Err ThreadCount
 threaded t s h l true threads = striped t s h l threads (stripe_count s) refl
 
--- the set_up of four numbers, or the first that is out of its limits
+-- the set-up of four numbers, or the first that is out of its limits
 abbrev pub set_up_of : ℕ → ℕ → ℕ → ℕ → Result SetUp Refusal
 set_up_of t s h l = threaded t s h l (thread_count t) refl

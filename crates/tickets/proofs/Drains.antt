@@ -60,7 +60,7 @@ module _ (w : World) (n ticket drained : ℕ) (inside : is_thread w.engine.set_u
   abbrev still : Thread
   still = with_phase (thread_of w.engine n) (Sealed ticket (drained + 1))
 
-  -- the words that a thread of this set_up has to drain
+  -- the words that a thread of this set-up has to drain
   abbrev left_by : Thread → ℕ
   left_by t = left_of t (cond (is_thread w.engine.set_up n) (admission Drain t.phase) (Err NoSuchThread))
 
@@ -110,7 +110,7 @@ sealed_counted w n inside (Sealed ticket drained) =
     next_counted w n ticket drained inside (slice_get (thread_of w.engine n).writes drained) refl
 sealed_counted w n inside (Lost l) = refused_counted w n WrongState
 
--- who is let in is a thread of the set_up
+-- who is let in is a thread of the set-up
 let_in_inside : (b : Bool) (r : Result (Unit {0}) Refusal) (x : Unit {0}) → cond b r (Err NoSuchThread) ≡ Ok x → b ≡ true
 let_in_inside true r x e = refl
 let_in_inside false r x e = let z : ◌≡◌ {A = ℕ} 0 1 = cc in absurd (omega arith)
