@@ -1,4 +1,6 @@
-ghost use Rattle.std.specs.Prelude.{◌≡◌, ◌≤◌, length};
+ghost use Rattle.std.specs.Prelude.{◌≡◌, ◌≤◌, length, ⊤};
+
+use std::alloc::AllocError;
 
 mod edits;
 mod reads;
@@ -9,6 +11,16 @@ pub struct Log<E> {
     len: u32,
     ghost places: { length entries ≡ 32 },
     ghost few: { len ≤ 32 },
+}
+
+impl<E: Copy> Clone for Log<E> {
+    ghost is_clone = { λ log copy. copy ≡ log };
+
+    ghost is_infallible = { λ _. ⊤ };
+
+    fn clone(&self) -> Result<Log<E>, AllocError> {
+        Ok(*self)
+    }
 }
 
 impl<E: Copy> Copy for Log<E> {}
