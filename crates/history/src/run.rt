@@ -17,11 +17,11 @@ pub fn run<S: WordStore, P: Policy>(
     policy: P,
     turns: &mut [Turn],
 ) -> Memory<S, P>
-    ensures answers { turns.new ≡ map turn_of (run_of table moved set_up (words store) policy (calls_of turns.old)).lines }
-    ensures left { world words result ≡ (run_of table moved set_up (words store) policy (calls_of turns.old)).world }
-    ensures told { result.policy ≡ (run_of table moved set_up (words store) policy (calls_of turns.old)).policy }
-    ensures lender { home result.words ≡ home store }
-    ensures law { (n : ℕ) → Law set_up (words store) (take n (run_of table moved set_up (words store) policy (calls_of turns.old)).lines) }
+    ensures answers { turns.new ≡ map turn_of (run_of P.table P.moved set_up (S.words store) policy (calls_of turns.old)).lines }
+    ensures left { world S.words result ≡ (run_of P.table P.moved set_up (S.words store) policy (calls_of turns.old)).world }
+    ensures told { result.policy ≡ (run_of P.table P.moved set_up (S.words store) policy (calls_of turns.old)).policy }
+    ensures lender { S.home result.words ≡ S.home store }
+    ensures law { (n : ℕ) → Law set_up (S.words store) (take n (run_of P.table P.moved set_up (S.words store) policy (calls_of turns.old)).lines) }
 {
     let mut memory = Memory::new(set_up, store, policy);
     for turn in turns.iter_mut() {

@@ -19,8 +19,8 @@ impl Turn {
     // Makes the call on a memory, and keeps its answer.
     pub(crate) fn make<S: WordStore, P: Policy>(&mut self, memory: &mut Memory<S, P>)
         ensures call { self.new.call ≡ self.old.call }
-        ensures answer { self.new.answer ≡ Some (performed (table memory.old.policy) (world words memory.old) self.old.call).answer }
-        ensures made { Did words home moved memory.old memory.new (performed (table memory.old.policy) (world words memory.old) self.old.call).answer (performed (table memory.old.policy) (world words memory.old) self.old.call) }
+        ensures answer { self.new.answer ≡ Some (performed (P.table memory.old.policy) (world S.words memory.old) self.old.call).answer }
+        ensures made { Did S.words S.home P.moved memory.old memory.new (performed (P.table memory.old.policy) (world S.words memory.old) self.old.call).answer (performed (P.table memory.old.policy) (world S.words memory.old) self.old.call) }
     {
         self.answer = Some(memory.perform(self.call));
     }

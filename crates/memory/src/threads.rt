@@ -8,14 +8,13 @@ mod edits;
 mod table;
 
 // A thread: what it is doing, its snapshot end, and its two logs.
+#[derive(Clone, Copy)]
 pub struct Thread {
     pub phase: Phase,
     pub snapshot: u32,
     pub reads: Log<ReadEntry>,
     pub writes: Log<WriteEntry>,
 }
-
-impl Copy for Thread {}
 
 // All threads, by number.
 #[derive(Drop)]

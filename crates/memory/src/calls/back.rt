@@ -13,7 +13,7 @@ use stores::word_store::WordStore;
 impl<S: WordStore, P: Policy> Memory<S, P> {
     // Ends the running or lost transaction of the thread, which leaves nothing of it; answers how it ended.
     pub fn back(&mut self, thread: u32) -> Result<Ending, Refusal>
-        ensures { Did words home moved self.old self.new (back_answer result) (back (world words self.old) thread) }
+        ensures { Did S.words S.home P.moved self.old self.new (back_answer result) (back (world S.words self.old) thread) }
     {
         let id = self.engine.admit(Kind::Back, thread)?;
         let ending = match self.engine.threads.get(id).phase {

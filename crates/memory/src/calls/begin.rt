@@ -11,7 +11,7 @@ use stores::word_store::WordStore;
 impl<S: WordStore, P: Policy> Memory<S, P> {
     // Begins a transaction of an idle thread, at the present moment.
     pub fn begin(&mut self, thread: u32) -> Result<(), Refusal>
-        ensures { Did words home moved self.old self.new (begin_answer result) (begin (world words self.old) thread) }
+        ensures { Did S.words S.home P.moved self.old self.new (begin_answer result) (begin (world S.words self.old) thread) }
     {
         let id = self.engine.admit(Kind::Begin, thread)?;
         if self.engine.mark {

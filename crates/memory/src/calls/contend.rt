@@ -12,8 +12,8 @@ use contention::policy::Policy;
 impl<S, P: Policy> Memory<S, P> {
     // Meets this owner of a stripe: where it is another running thread, the one that the policy does not favour is lost.
     pub(crate) fn contend(&mut self, thread: ThreadId, owner: Option<ThreadId>) -> Result<(), Loss>
-        ensures step { Stepped (contended (table self.old.policy) (engine_view self.old.engine) thread.number (rival_of (engine_view self.old.engine) thread.number (owner_number owner))) result (engine_view self.new.engine) }
-        ensures told { self.new.policy ≡ after_events moved self.old.policy (step_told (contended (table self.old.policy) (engine_view self.old.engine) thread.number (rival_of (engine_view self.old.engine) thread.number (owner_number owner)))) }
+        ensures step { Stepped (contended (P.table self.old.policy) (engine_view self.old.engine) thread.number (rival_of (engine_view self.old.engine) thread.number (owner_number owner))) result (engine_view self.new.engine) }
+        ensures told { self.new.policy ≡ after_events P.moved self.old.policy (step_told (contended (P.table self.old.policy) (engine_view self.old.engine) thread.number (rival_of (engine_view self.old.engine) thread.number (owner_number owner)))) }
         ensures stripes_kept { self.new.engine.stripes ≡ self.old.engine.stripes }
         ensures words_kept { self.new.words ≡ self.old.words }
     {

@@ -12,7 +12,7 @@ use stores::word_store::WordStore;
 impl<S: WordStore, P: Policy> Memory<S, P> {
     // Writes the next word of the sealed transaction of the thread to the store; answers how many are left.
     pub fn drain(&mut self, thread: u32) -> Result<u32, Refusal>
-        ensures { Did words home moved self.old self.new (drain_answer result) (drain (world words self.old) thread) }
+        ensures { Did S.words S.home P.moved self.old self.new (drain_answer result) (drain (world S.words self.old) thread) }
     {
         let id = self.engine.admit(Kind::Drain, thread)?;
         let cell = self.engine.threads.get(id);

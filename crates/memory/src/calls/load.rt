@@ -15,7 +15,7 @@ use stores::word_store::WordStore;
 impl<S: WordStore, P: Policy> Memory<S, P> {
     // The word at an address, as the running transaction of the thread sees it.
     pub fn load(&mut self, thread: u32, address: u32) -> Result<u32, Stop>
-        ensures { Did words home moved self.old self.new (load_answer result) (load (table self.old.policy) (world words self.old) thread address) }
+        ensures { Did S.words S.home P.moved self.old self.new (load_answer result) (load (P.table self.old.policy) (world S.words self.old) thread address) }
     {
         let id = self.engine.admit(Kind::Load, thread)?;
         if address >= self.words.size() {
@@ -30,8 +30,8 @@ impl<S: WordStore, P: Policy> Memory<S, P> {
 
     // The word of the store, through the stripe of its address.
     fn load_stripe(&mut self, thread: ThreadId, address: u32) -> Result<u32, Stop>
-        requires { address < length (words self.old.words) }
-        ensures { Did words home moved self.old self.new (load_answer result) (load_logged (table self.old.policy) (world words self.old) thread.number address None) }
+        requires { address < length (S.words self.old.words) }
+        ensures { Did S.words S.home P.moved self.old self.new (load_answer result) (load_logged (P.table self.old.policy) (world S.words self.old) thread.number address None) }
     {
         let at = self.engine.set_up.stripe_of(address);
         let known = self.engine.has_read(thread, at);
@@ -49,8 +49,8 @@ impl<S: WordStore, P: Policy> Memory<S, P> {
         at: StripeId,
         known: bool,
     ) -> Result<u32, Stop>
-        requires { address < length (words self.old.words) }
-        ensures { Did words home moved self.old self.new (load_answer result) (load_roomy (table self.old.policy) (world words self.old) thread.number address at.number known false) }
+        requires { address < length (S.words self.old.words) }
+        ensures { Did S.words S.home P.moved self.old self.new (load_answer result) (load_roomy (P.table self.old.policy) (world S.words self.old) thread.number address at.number known false) }
     {
         let stripe = self.engine.stripes.get(at);
         if self.engine.is_busy(thread, stripe.owner) {

@@ -11,7 +11,7 @@ use stores::word_store::WordStore;
 impl<S: WordStore, P: Policy> Memory<S, P> {
     // A memory over a store, with a policy, that nobody has called yet.
     pub fn new(set_up: SetUp, store: S, policy: P) -> Memory<S, P>
-        ensures all_new { world words result ≡ new_world set_up (words store) }
+        ensures all_new { world S.words result ≡ new_world set_up (S.words store) }
         ensures store { result.words ≡ store }
         ensures policy { result.policy ≡ policy }
     {

@@ -10,7 +10,7 @@ use stores::word_store::WordStore;
 impl<S: WordStore, P: Policy> Memory<S, P> {
     // Makes a call that is given as a value, and gives its answer as one.
     pub fn perform(&mut self, call: Call) -> Answer
-        ensures { Did words home moved self.old self.new result (performed (table self.old.policy) (world words self.old) call) }
+        ensures { Did S.words S.home P.moved self.old self.new result (performed (P.table self.old.policy) (world S.words self.old) call) }
     {
         match call {
             Call::Begin { thread } => Answer::from(self.begin(thread)),

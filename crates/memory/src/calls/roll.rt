@@ -10,7 +10,7 @@ use stores::word_store::WordStore;
 impl<S: WordStore, P: Policy> Memory<S, P> {
     // Starts the clock and all versions anew, once the clock is spent and no transaction is under way.
     pub fn roll(&mut self) -> Result<(), Refusal>
-        ensures { Did words home moved self.old self.new (begin_answer result) (roll (world words self.old)) }
+        ensures { Did S.words S.home P.moved self.old self.new (begin_answer result) (roll (world S.words self.old)) }
     {
         if !self.engine.mark {
             return Err(Refusal::RollNotDue);

@@ -16,7 +16,7 @@ use stores::word_store::WordStore;
 impl<S: WordStore, P: Policy> Memory<S, P> {
     // Seals the running transaction of the thread: a reader is done, an updater has its ticket and is to be drained.
     pub fn seal(&mut self, thread: u32) -> Result<Sealed, Stop>
-        ensures { Did words home moved self.old self.new (seal_answer result) (seal (world words self.old) thread) }
+        ensures { Did S.words S.home P.moved self.old self.new (seal_answer result) (seal (world S.words self.old) thread) }
     {
         let id = self.engine.admit(Kind::Seal, thread)?;
         if !self.engine.threads.get(id).writes.is_empty() {
@@ -30,7 +30,7 @@ impl<S: WordStore, P: Policy> Memory<S, P> {
 
     // Seals a transaction that stored something.
     fn seal_updater(&mut self, thread: ThreadId) -> Result<Sealed, Stop>
-        ensures { Did words home moved self.old self.new (seal_answer result) (seal_updates (world words self.old) thread.number false) }
+        ensures { Did S.words S.home P.moved self.old self.new (seal_answer result) (seal_updates (world S.words self.old) thread.number false) }
     {
         if self.engine.clock >= self.engine.set_up.limit() {
             return Err(Stop::Lost(self.engine.spend(thread)));

@@ -14,7 +14,7 @@ use stores::word_store::WordStore;
 impl<S: WordStore, P: Policy> Memory<S, P> {
     // Has the running transaction of the thread write a word at an address.
     pub fn store(&mut self, thread: u32, address: u32, word: u32) -> Result<(), Stop>
-        ensures { Did words home moved self.old self.new (store_answer result) (store (table self.old.policy) (world words self.old) thread address word) }
+        ensures { Did S.words S.home P.moved self.old self.new (store_answer result) (store (P.table self.old.policy) (world S.words self.old) thread address word) }
     {
         let id = self.engine.admit(Kind::Store, thread)?;
         if address >= self.words.size() {
@@ -29,7 +29,7 @@ impl<S: WordStore, P: Policy> Memory<S, P> {
 
     // A store to an address that is not logged yet: its stripe is taken, unless the thread owns it.
     fn store_stripe(&mut self, thread: ThreadId, address: u32, word: u32) -> Result<(), Stop>
-        ensures { Did words home moved self.old self.new (store_answer result) (store_logged (table self.old.policy) (world words self.old) thread.number address word false) }
+        ensures { Did S.words S.home P.moved self.old self.new (store_answer result) (store_logged (P.table self.old.policy) (world S.words self.old) thread.number address word false) }
     {
         if self.engine.writes_full(thread) {
             return Err(Stop::Refused(Refusal::LogFull));

@@ -15,7 +15,7 @@ use stores::word_store::WordStore;
 impl<S: WordStore, P: Policy> Tasks<S, P> {
     // Ends the ticket's running or lost transaction, which leaves nothing of it. A refused back leaves the ticket open.
     pub fn back(&mut self, ticket: OpenTicket) -> Result<Ended, Kept<OpenTicket, Refusal>>
-        ensures did { Did words home moved self.old.memory self.new.memory (back_answer (back_given result)) (back (world words self.old.memory) ticket.0) }
+        ensures did { Did S.words S.home P.moved self.old.memory self.new.memory (back_answer (back_given result)) (back (world S.words self.old.memory) ticket.0) }
         ensures hand { back_left result ≡ back_hand ticket.0 (back_given result) }
         ensures claims { self.new.claims ≡ self.old.claims }
     {

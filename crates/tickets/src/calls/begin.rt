@@ -15,7 +15,7 @@ use stores::word_store::WordStore;
 impl<S: WordStore, P: Policy> Tasks<S, P> {
     // Begins a transaction of the ticket's thread, at the present moment. A refused begin leaves the ticket idle.
     pub fn begin(&mut self, ticket: IdleTicket) -> Result<OpenTicket, Kept<IdleTicket, Refusal>>
-        ensures did { Did words home moved self.old.memory self.new.memory (begin_answer (begin_given result)) (begin (world words self.old.memory) ticket.0) }
+        ensures did { Did S.words S.home P.moved self.old.memory self.new.memory (begin_answer (begin_given result)) (begin (world S.words self.old.memory) ticket.0) }
         ensures hand { begin_left result ≡ begin_hand ticket.0 (begin_given result) }
         ensures claims { self.new.claims ≡ self.old.claims }
     {

@@ -16,7 +16,7 @@ impl<S: WordStore, P: Policy> Tasks<S, P> {
     // Writes the next word of the ticket's transaction to the store. The ticket is idle once no word is left, and
     // where the drain is refused: its thread is then not sealed in this memory.
     pub fn drain(&mut self, ticket: SealedTicket) -> Result<Drained, Kept<IdleTicket, Refusal>>
-        ensures did { Did words home moved self.old.memory self.new.memory (drain_answer (drain_given result)) (drain (world words self.old.memory) ticket.0) }
+        ensures did { Did S.words S.home P.moved self.old.memory self.new.memory (drain_answer (drain_given result)) (drain (world S.words self.old.memory) ticket.0) }
         ensures hand { drain_left result ≡ drain_hand ticket.0 (drain_given result) }
         ensures claims { self.new.claims ≡ self.old.claims }
     {

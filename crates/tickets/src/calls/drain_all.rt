@@ -19,7 +19,7 @@ impl<S: WordStore, P: Policy> Tasks<S, P> {
         &mut self,
         ticket: SealedTicket,
     ) -> Result<IdleTicket, Kept<IdleTicket, Refusal>>
-        ensures did { Did words home moved self.old.memory self.new.memory (drain_answer (finish_given result)) (drain_all (world words self.old.memory) ticket.0) }
+        ensures did { Did S.words S.home P.moved self.old.memory self.new.memory (drain_answer (finish_given result)) (drain_all (world S.words self.old.memory) ticket.0) }
         ensures hand { finish_left result ≡ idle ticket.0 }
         ensures claims { self.new.claims ≡ self.old.claims }
     {
@@ -38,7 +38,7 @@ fn drain_words<S: WordStore, P: Policy>(
     memory: &mut Memory<S, P>,
     thread: u32,
 ) -> Result<(), Refusal>
-    ensures { Did words home moved memory.old memory.new (drain_answer (none_left result)) (drain_all (world words memory.old) thread) }
+    ensures { Did S.words S.home P.moved memory.old memory.new (drain_answer (none_left result)) (drain_all (world S.words memory.old) thread) }
 {
     loop {
         match memory.drain(thread) {

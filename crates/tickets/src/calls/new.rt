@@ -12,7 +12,7 @@ use stores::word_store::WordStore;
 impl<S: WordStore, P: Policy> Tasks<S, P> {
     // A memory over a store, with a policy, that nobody has called yet and whose tickets are all to be claimed.
     pub fn new(set_up: SetUp, store: S, policy: P) -> Tasks<S, P>
-        ensures all_new { world words result.memory ≡ new_world set_up (words store) }
+        ensures all_new { world S.words result.memory ≡ new_world set_up (S.words store) }
         ensures store { result.memory.words ≡ store }
         ensures policy { result.memory.policy ≡ policy }
         ensures claims { result.claims ≡ unclaimed }

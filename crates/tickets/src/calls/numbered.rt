@@ -14,7 +14,7 @@ use stores::word_store::WordStore;
 impl<S: WordStore, P: Policy> Tasks<S, P> {
     // Makes a numbered call beside the tickets, such as a roll; no claim changes.
     pub fn perform(&mut self, call: Call) -> Answer
-        ensures did { Did words home moved self.old.memory self.new.memory result (performed (table self.old.memory.policy) (world words self.old.memory) call) }
+        ensures did { Did S.words S.home P.moved self.old.memory self.new.memory result (performed (P.table self.old.memory.policy) (world S.words self.old.memory) call) }
         ensures claims { self.new.claims ≡ self.old.claims }
     {
         self.memory.perform(call)

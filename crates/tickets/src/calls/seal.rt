@@ -17,7 +17,7 @@ impl<S: WordStore, P: Policy> Tasks<S, P> {
     // Seals the ticket's transaction: a reader is done, an updater is to be drained.
     // A seal that is refused or lost leaves the ticket open.
     pub fn seal(&mut self, ticket: OpenTicket) -> Result<Sealing, Kept<OpenTicket, Stop>>
-        ensures did { Did words home moved self.old.memory self.new.memory (seal_answer (seal_given result)) (seal (world words self.old.memory) ticket.0) }
+        ensures did { Did S.words S.home P.moved self.old.memory self.new.memory (seal_answer (seal_given result)) (seal (world S.words self.old.memory) ticket.0) }
         ensures hand { seal_left result ≡ seal_hand ticket.0 (seal_given result) }
         ensures claims { self.new.claims ≡ self.old.claims }
     {

@@ -3,12 +3,12 @@ use Rattle.memory.proofs.Idles.{past_idle, at_active}
 use Rattle.memory.proofs.engine.Engine.is_all_idle.Goals as goal
 use Rattle.memory.specs.Views.{engine_view}
 
-pub returns-then-not-is-idle : goal.returns-then-not-is-idle
-returns-then-not-is-idle c =
+pub returns-then-not-is_idle : goal.returns-then-not-is_idle
+returns-then-not-is_idle c =
     let one : c.loop-left.left ≡ suc (c.loop-left.left - 1) = omega arith in
     sym
     (at_active (engine_view c.args.self.now) (c.loop-left.left - 1) c.loop-left.left one
-    (sym c.if-not-is-idle.ensures)) ∙
+    (sym c.if-not-is_idle.ensures)) ∙
     c.loop-left.invariant.1
 
 pub loop-left-preserved : goal.loop-left-preserved
@@ -17,6 +17,6 @@ loop-left-preserved c =
       omega (arith, c.loop-left.invariant.0),
       sym
           (past_idle (engine_view c.args.self.now) (c.loop-left.left - 1) c.loop-left.left one
-          (sym c.if-not-is-idle.ensures)) ∙
+          (sym c.if-not-is_idle.ensures)) ∙
           c.loop-left.invariant.1,
     )

@@ -8,7 +8,7 @@ use Rattle.memory.specs.Views.{read_mark}
 
 pub returns : goal.returns
 returns c =
-    c.is-some.ensures ∙
+    c.is_some.ensures ∙
     ap is_some c.find.ensures ∙
     ap (λ (k : ℕ). is_some (first_with {E = ReadEntry} (λ e. e.stripe.number) k (logged c.args.self.now.reads)))
     c.number.ensures ∙
