@@ -1,6 +1,6 @@
 -- Records with one fault each, which the law has to forbid, and one with none.
 -- In all of them the store has two words, at first both 1, and thread 1 is ahead of every other thread.
-use Rattle.std.specs.Prelude.{ℕ, cond, List, [], ◌∷◌, ◌++◌, Some, None, Option, ◌==◌}
+use Rattle.std.specs.Prelude.{ℕ, cond, List, [], ◌∷◌, ◌++◌, Some, None, ◌==◌}
 use Rattle.common.specs.declared.loss.Loss.{Loss}
 use Rattle.common.specs.declared.loss.Loss.TheVariants.{Beaten, Invalid, Stolen}
 use Rattle.history.specs.Law.{Law}

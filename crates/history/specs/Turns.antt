@@ -7,7 +7,7 @@ use Rattle.history.specs.declared.turn.Turn.{Turn}
 use Rattle.layout.specs.declared.set_up.SetUp.{SetUp}
 use Rattle.rules.specs.Calls.{perform}
 use Rattle.rules.specs.NewEngine.{new_world}
-use Rattle.rules.specs.Outcomes.{Outcome, Table}
+use Rattle.rules.specs.Outcomes.{Table}
 use Rattle.rules.specs.States.{World}
 use Rattle.rules.specs.declared.call.Call.{Call}
 

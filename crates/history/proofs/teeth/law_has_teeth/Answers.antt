@@ -11,5 +11,5 @@ returns c = record {
   leader_invalid = leader_invalid_is_unlawful;
   leader_stolen_from = leader_stolen_from_is_unlawful;
   given_up_word = given_up_word_is_unlawful;
-  no-fault = both_made_two_is_lawful;
+  no_fault = both_made_two_is_lawful;
 }
