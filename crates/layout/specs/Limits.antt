@@ -1,4 +1,4 @@
--- The limits of the four numbers of a set_up.
+-- The limits of the four numbers of a set-up.
 use Rattle.std.specs.Prelude.{ℕ, Bool, ◌&&◌, ◌||◌, ◌==◌, nat_le}
 
 -- 1 to 8 threads

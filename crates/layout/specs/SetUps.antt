@@ -1,4 +1,4 @@
--- What a set_up says: its four numbers and the stripe of an address.
+-- What a set-up says: its four numbers and the stripe of an address.
 use Rattle.std.specs.Prelude.{ℕ, ◌/◌, ◌%◌, ◌^◌, cond, ◌&&◌, Ok, Err, Result, nat_le, nat_lt}
 use Rattle.common.specs.declared.refusal.Refusal.{Refusal}
 use Rattle.common.specs.declared.refusal.Refusal.TheVariants.{ThreadCount, StripeCount, Shift, ClockLimit, NoSuchThread, NoSuchPlace}
@@ -8,18 +8,18 @@ use Rattle.layout.specs.declared.set_up.SetUp.{SetUp}
 use Rattle.layout.specs.declared.stripe_id.StripeId.{StripeId}
 use Rattle.std.specs.Result.{result_map_both}
 
--- the four numbers of a set_up
+-- the four numbers of a set-up
 pub record Numbers : Type 0 where
   pub threads : ℕ
   pub stripes : ℕ
   pub shift : ℕ
   pub limit : ℕ
 
--- a set_up by its four numbers
+-- a set-up by its four numbers
 abbrev pub numbers : SetUp → Numbers
 numbers u = record { threads = u.threads; stripes = u.stripes; shift = u.shift; limit = u.limit }
 
--- a set_up, or why there is none, by its four numbers
+-- a set-up, or why there is none, by its four numbers
 abbrev pub numbers_of : Result SetUp Refusal → Result Numbers Refusal
 numbers_of r = result_map_both numbers (λ e. e) r
 
