@@ -8,7 +8,7 @@ fn numbers_of_every_length(rt: HostRuntime) {
     assert!(rt; end <= 64);
     assert_eq!(rt;
         &output[0..end],
-        b"(read 0 9 10 4294967295 18446744073709551615)\n"
+        b"(read 0 9 10 4294967295 18446744073709551615)\n".as_slice()
     );
 }
 

@@ -21,6 +21,7 @@ impl<'a> Cursor<'a> {
     }
 
     // The next token, past a space before it, and the place behind it.
+    #[tactic(auto, unfolding(crate::specs::Tokens::token_at))]
     pub fn token(self) -> (Token<'a>, Cursor<'a>)
         ensures { taken_view result ≡ token_at (spot self.entry) }
     {

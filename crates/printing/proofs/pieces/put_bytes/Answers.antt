@@ -9,7 +9,7 @@ loop-byte-init c = printed_none c.args.at c.args.output.now
 pub loop-byte-preserved : goal.loop-byte-preserved
 loop-byte-preserved c =
     printed_as (sym (take_more c.args.bytes.now c.loop-byte.byte-index 0 c.loop-byte-test.true))
-    (printed_more c.loop-byte.invariant c.put-byte-at.ensures)
+    (printed_more c.loop-byte.invariant c.put_byte-at.ensures)
 
 pub returns : goal.returns
 returns c = printed_as (take_all c.loop-byte.byte-index c.args.bytes.now c.loop-byte-test.false) c.loop-byte.invariant

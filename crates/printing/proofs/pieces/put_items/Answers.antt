@@ -11,7 +11,7 @@ loop-number-init c = printed_none c.args.at c.args.output.now
 pub loop-number-preserved : goal.loop-number-preserved
 loop-number-preserved c =
     printed_as (sym (items_more c.args.numbers.now c.loop-number.number-index c.loop-number-test.true))
-    (printed_more c.loop-number.invariant c.put-item-at.ensures)
+    (printed_more c.loop-number.invariant c.put_item-at.ensures)
 
 pub returns : goal.returns
 returns c = printed_as (ap items_text (take_all c.loop-number.number-index c.args.numbers.now c.loop-number-test.false)) c.loop-number.invariant

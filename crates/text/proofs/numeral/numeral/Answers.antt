@@ -4,16 +4,16 @@ use Rattle.text.proofs.Digits.{fits, never_fits}
 use Rattle.text.specs.Numerals.{fitting, value_after}
 use Rattle.text.proofs.numeral.numeral.Goals as goal
 
-pub returns-in-err-value : goal.returns-in-err-value
-returns-in-err-value c =
+pub returns-in_err-value : goal.returns-in_err-value
+returns-in_err-value c =
     let e = at_drop_more (value_after c.loop-digit.value) c.args.digits.now c.loop-digit.digit-index 0 c.loop-digit-test.true in
-    let n = never_fits _ (drop (c.loop-digit.digit-index + 1) c.args.digits.now) c.in-err-value.ensures in
-    c.from-residual.ensures ∙ n ∙ ap fitting (sym e ∙ c.loop-digit.invariant.1)
+    let n = never_fits _ (drop (c.loop-digit.digit-index + 1) c.args.digits.now) c.in_err-value.ensures in
+    c.from_residual.ensures ∙ n ∙ ap fitting (sym e ∙ c.loop-digit.invariant.1)
 
 pub loop-digit-preserved : goal.loop-digit-preserved
 loop-digit-preserved c =
     let e = at_drop_more (value_after c.loop-digit.value) c.args.digits.now c.loop-digit.digit-index 0 c.loop-digit-test.true in
-    let f = fits _ _ c.in-ok-value.ensures in
+    let f = fits _ _ c.in_ok-value.ensures in
     search (rules, e)
 
 pub returns : goal.returns

@@ -4,9 +4,9 @@ use Rattle.text.proofs.Firsts.{at_first}
 use Rattle.text.specs.Verdicts.{reached}
 use Rattle.text.proofs.place.reached.Goals as goal
 
-pub returns-in-default-next : goal.returns-in-default-next
+pub returns-in_default-next : goal.returns-in_default-next
 unfolding reached
-returns-in-default-next c =
+returns-in_default-next c =
     let some : 0 < length c.loop-rest.rest.now = search rules in
     let e = at_first (reached c.loop-rest.place c.loop-rest.column) c.loop-rest.rest.now _ some refl in
     search (rules, e)
