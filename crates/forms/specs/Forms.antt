@@ -1,12 +1,11 @@
 -- What a line asks for, or what is wrong with it: first its text, then the name of its form, then whether that form is
 -- due, then the items from left to right. The first fault is the answer.
-use Rattle.std.specs.Prelude.{ℕ, Bool, true, false, length, Ok, Err, Result}
+use Rattle.std.specs.Prelude.{Bool, true, false, length, Ok, Err, Result}
 use Rattle.forms.specs.Engines.{engine_at}
 use Rattle.forms.specs.Heads.{head_at, is_due}
 use Rattle.forms.specs.Items.{close_at}
 use Rattle.forms.specs.Numbers.{one_number, two_numbers, three_numbers}
 use Rattle.forms.specs.Views.{Reading}
-use Rattle.forms.specs.declared.form.EngineForm.{EngineForm}
 use Rattle.forms.specs.declared.form.Form.{Form}
 use Rattle.forms.specs.declared.form.Form.TheVariants.{Engine, Call, Peek}
 use Rattle.forms.specs.declared.form_fault.FormFault.{FormFault}

@@ -1,5 +1,5 @@
 -- The name that heads a line's form.
-use Rattle.std.specs.Prelude.{ℕ, Bool, cond, not, List, length, Some, None, Ok, Err, codes, Option, Result}
+use Rattle.std.specs.Prelude.{ℕ, Bool, cond, not, List, Some, None, Ok, Err, codes, Option, Result}
 use Rattle.forms.specs.Names.{spells}
 use Rattle.forms.specs.Views.{Reading}
 use Rattle.forms.specs.declared.form_fault.FormFault.{FormFault}
