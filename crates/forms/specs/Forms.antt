@@ -49,15 +49,15 @@ form_due h true = items_at h.value h.after
 
 -- a form has to be due once its name is known
 abbrev pub form_headed : Bool → Result (Reading Head) FormFault → Result Form FormFault
-form_headed has-engine (Err f) = Err f
-form_headed has-engine (Ok h) = form_due h (is_due h.value has-engine)
+form_headed has_engine (Err f) = Err f
+form_headed has_engine (Ok h) = form_due h (is_due h.value has_engine)
 
 -- the name counts once the text is a form
 abbrev pub form_read : Line → Bool → Result (Unit {0}) TextFault → Result Form FormFault
-form_read l has-engine (Err f) = Err (Text f)
-form_read l has-engine (Ok _) =
-    form_headed has-engine (head_at (record { size = length l.bytes; rest = l.bytes }))
+form_read l has_engine (Err f) = Err (Text f)
+form_read l has_engine (Ok _) =
+    form_headed has_engine (head_at (record { size = length l.bytes; rest = l.bytes }))
 
 -- the form of a line, where an engine was accepted before or not
 abbrev pub form_of : Line → Bool → Result Form FormFault
-form_of l has-engine = form_read l has-engine (text_verdict l)
+form_of l has_engine = form_read l has_engine (text_verdict l)
