@@ -10,13 +10,14 @@ pub struct IdleTicket(u32);
 #[derive(Drop)]
 pub struct OpenTicket(u32);
 
-// The ticket of a thread whose words are to be drained: it drains until none is left, and may not be let go.
+// The ticket of a thread whose words are to be drained: it drains until none is left, and may not be let go before.
 pub struct SealedTicket(u32);
 
-// Nothing meets what this asks, so that a program that lets a sealed ticket go does not build.
+// Only a ticket that the last drain has taken its thread from may be let go. A claim gives no ticket of thread 0, so that
+// a program that forgets a sealed ticket does not build.
 impl Drop for SealedTicket {
     fn drop(self)
-        requires { ⊥ }
+        requires { self.0 ≡ 0 }
     {
         let SealedTicket(_) = self;
     }
@@ -77,10 +78,11 @@ impl SealedTicket {
     }
 
     // The same thread's ticket, once nothing is to be drained any more. Only a drain may take a sealed ticket so.
-    pub(crate) fn into_idle(self) -> IdleTicket
+    pub(crate) fn into_idle(mut self) -> IdleTicket
         ensures { result.0 ≡ self.0 }
     {
-        let SealedTicket(thread) = self;
+        let thread = self.0;
+        self.0 = 0;
         IdleTicket(thread)
     }
 }
