@@ -10,11 +10,11 @@ pub struct IdleTicket(u32);
 #[derive(Drop)]
 pub struct OpenTicket(u32);
 
-// The ticket of a thread whose words are to be drained: it drains until none is left, and may not be let go before.
+// The ticket of a thread whose words are to be drained: it drains until none is left, and may not be let go.
 pub struct SealedTicket(u32);
 
-// Only a ticket that the last drain has taken its thread from may be let go. A claim gives no ticket of thread 0, so that
-// a program that forgets a sealed ticket does not build.
+// Only a ticket of thread 0 may be let go, and no claim gives one, so that a program that forgets a sealed ticket does not
+// build.
 impl Drop for SealedTicket {
     fn drop(self)
         requires { self.0 ≡ 0 }
@@ -78,11 +78,10 @@ impl SealedTicket {
     }
 
     // The same thread's ticket, once nothing is to be drained any more. Only a drain may take a sealed ticket so.
-    pub(crate) fn into_idle(mut self) -> IdleTicket
+    pub(crate) fn into_idle(self) -> IdleTicket
         ensures { result.0 ≡ self.0 }
     {
-        let thread = self.0;
-        self.0 = 0;
+        let SealedTicket(thread) = self;
         IdleTicket(thread)
     }
 }
