@@ -1,7 +1,6 @@
 -- How much a line prints.
 use Rattle.std.specs.Prelude.{ℕ, ◌+◌, ◌*◌, ◌≤◌, List, length}
 use Rattle.forms.specs.Faults.{fault_column}
-use Rattle.session.specs.Replies.{reply_text}
 use Rattle.session.specs.declared.reply.Reply.{Reply}
 use Rattle.session.specs.declared.reply.Reply.TheVariants.{Answered, EngineRefused, Points, Lock, Fault}
 use Rattle.text.specs.Lines.{lines}

@@ -1,4 +1,4 @@
-use Rattle.std.proofs.Common.{◌≡◌, ℕ, List, ◌++◌, length, ap, ◌∙◌, arith, length-append}
+use Rattle.std.proofs.Common.{◌≡◌, ◌++◌, length, ap, ◌∙◌, arith, length-append}
 use Rattle.memory.specs.Memories.{world}
 use Rattle.printing.proofs.Printed.{printed, printed_as, printed_more}
 use Rattle.rules.specs.NewEngine.{new_world}
