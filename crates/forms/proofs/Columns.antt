@@ -1,14 +1,12 @@
 -- A fault names a column of its line, or one past its end.
-use Rattle.std.proofs.Common.{◌≡◌, ℕ, ◌+◌, ◌-◌, ◌≤◌, Bool, true, false, cond, eqb, List, [], ◌∷◌, length, Some, None, Ok, Err, Option, Result, sym, refl, ap, ◌∙◌, subst, arith}
+use Rattle.std.proofs.Common.{◌≡◌, ℕ, ◌+◌, ◌≤◌, Bool, true, false, cond, eqb, List, [], ◌∷◌, length, Some, None, Ok, Err, Option, Result, refl, ap, subst, arith}
 use Rattle.forms.specs.Engines.{names_part, part_name, part_opened, part_begun, part_closed, part_read, number_behind, number_part, kind_behind, kind_part, policy_behind, policy_part, engine_closed, engine_policy, engine_kind, engine_words, engine_limit, engine_shift, engine_stripes, engine_threads, engine_at}
 use Rattle.forms.specs.Faults.{fault_column}
 use Rattle.forms.specs.Forms.{made_of, call_at, items_at, form_due, form_headed, form_read, form_of}
-use Rattle.forms.specs.Heads.{head_in, head_of, head_behind, head_at, is_due}
+use Rattle.forms.specs.Heads.{head_in, head_of, head_at, is_due}
 use Rattle.forms.specs.Items.{opened, open_at, closed, close_at, item_of, number_in, kind_in, policy_in, number_at, kind_at, policy_at}
 use Rattle.forms.specs.Numbers.{one_closed, one_read, one_number, two_rest, two_read, two_numbers, three_rest, three_read, three_numbers}
 use Rattle.forms.specs.Views.{Reading}
-use Rattle.forms.specs.declared.form.EngineForm.{EngineForm}
-use Rattle.forms.specs.declared.form.Form.{Form}
 use Rattle.forms.specs.declared.form.PolicyName.{PolicyName}
 use Rattle.forms.specs.declared.form.StoreKind.{StoreKind}
 use Rattle.forms.specs.declared.form_fault.FormFault.{FormFault}
@@ -21,7 +19,7 @@ use Rattle.forms.specs.declared.names.Part.TheVariants.{Threads, Stripes, Shift,
 use Rattle.text.specs.Bytes.{is_digit}
 use Rattle.text.specs.Lines.{Line}
 use Rattle.text.specs.Places.{next}
-use Rattle.text.specs.Tokens.{Token, opening, closing, name, number, end, Spot, Taken, column_of, column_at, from_rest, taken, token_at, unspaced}
+use Rattle.text.specs.Tokens.{Token, opening, closing, name, number, end, Spot, Taken, column_of, from_rest, taken, token_at, unspaced}
 use Rattle.text.specs.Verdicts.{is_over, reached, text_verdict}
 use Rattle.text.specs.declared.place.Place.{Place}
 use Rattle.text.specs.declared.place.Place.TheVariants.{Start}

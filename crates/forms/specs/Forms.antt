@@ -1,12 +1,11 @@
 -- What a line asks for, or what is wrong with it: first its text, then the name of its form, then whether that form is
 -- due, then the items from left to right. The first fault is the answer.
-use Rattle.std.specs.Prelude.{ℕ, Bool, true, false, length, Ok, Err, Result}
+use Rattle.std.specs.Prelude.{Bool, true, false, length, Ok, Err, Result}
 use Rattle.forms.specs.Engines.{engine_at}
 use Rattle.forms.specs.Heads.{head_at, is_due}
 use Rattle.forms.specs.Items.{close_at}
 use Rattle.forms.specs.Numbers.{one_number, two_numbers, three_numbers}
 use Rattle.forms.specs.Views.{Reading}
-use Rattle.forms.specs.declared.form.EngineForm.{EngineForm}
 use Rattle.forms.specs.declared.form.Form.{Form}
 use Rattle.forms.specs.declared.form.Form.TheVariants.{Engine, Call, Peek}
 use Rattle.forms.specs.declared.form_fault.FormFault.{FormFault}
@@ -50,15 +49,15 @@ form_due h true = items_at h.value h.after
 
 -- a form has to be due once its name is known
 abbrev pub form_headed : Bool → Result (Reading Head) FormFault → Result Form FormFault
-form_headed has-engine (Err f) = Err f
-form_headed has-engine (Ok h) = form_due h (is_due h.value has-engine)
+form_headed has_engine (Err f) = Err f
+form_headed has_engine (Ok h) = form_due h (is_due h.value has_engine)
 
 -- the name counts once the text is a form
 abbrev pub form_read : Line → Bool → Result (Unit {0}) TextFault → Result Form FormFault
-form_read l has-engine (Err f) = Err (Text f)
-form_read l has-engine (Ok _) =
-    form_headed has-engine (head_at (record { size = length l.bytes; rest = l.bytes }))
+form_read l has_engine (Err f) = Err (Text f)
+form_read l has_engine (Ok _) =
+    form_headed has_engine (head_at (record { size = length l.bytes; rest = l.bytes }))
 
 -- the form of a line, where an engine was accepted before or not
 abbrev pub form_of : Line → Bool → Result Form FormFault
-form_of l has-engine = form_read l has-engine (text_verdict l)
+form_of l has_engine = form_read l has_engine (text_verdict l)

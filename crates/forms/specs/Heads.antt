@@ -1,5 +1,5 @@
 -- The name that heads a line's form.
-use Rattle.std.specs.Prelude.{ℕ, Bool, cond, not, List, length, Some, None, Ok, Err, codes, Option, Result}
+use Rattle.std.specs.Prelude.{ℕ, Bool, cond, not, List, Some, None, Ok, Err, codes, Option, Result}
 use Rattle.forms.specs.Names.{spells}
 use Rattle.forms.specs.Views.{Reading}
 use Rattle.forms.specs.declared.form_fault.FormFault.{FormFault}
@@ -24,9 +24,9 @@ head_named n =
 
 -- the form may come now: an engine where there is none, any other behind it
 abbrev pub is_due : Head → Bool → Bool
-is_due Engine has-engine = not has-engine
-is_due (Call c) has-engine = has-engine
-is_due Peek has-engine = has-engine
+is_due Engine has_engine = not has_engine
+is_due (Call c) has_engine = has_engine
+is_due Peek has_engine = has_engine
 
 -- the form that a token heads
 abbrev pub head_in : Token → Option Head

@@ -1,5 +1,5 @@
 -- A log seen through a view of its entries.
-use Rattle.std.proofs.Common.{◌≡◌, ℕ, Bool, true, false, cond, eqb, ltb, List, [], ◌∷◌, ◌++◌, map, length, is_some, Some, None, Option, sym, refl, ap, ◌∙◌}
+use Rattle.std.proofs.Common.{◌≡◌, ℕ, Bool, true, false, cond, eqb, ltb, List, [], ◌∷◌, ◌++◌, map, length, is_some, Some, Option, refl}
 use Rattle.layout.specs.Lookups.{first_with}
 use Rattle.rules.specs.Load.{grown}
 use Rattle.std.proofs.lemmas.List.{map_push, length-map}

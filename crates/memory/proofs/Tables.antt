@@ -1,5 +1,5 @@
 -- The engine's arrays as the tables of the rules: reading and writing one place, and moving all.
-use Rattle.std.proofs.Common.{◌≡◌, ℕ, zero, suc, ◌<◌, ◌≤◌, false, cond, eqb, ◌⊎◌, List, [], ◌∷◌, map, length, get_or, set, replicate, Option, unwrap_or, sym, refl, ap, ◌∙◌, inl, inr, arith, get_or-set_other, get_or-set_same}
+use Rattle.std.proofs.Common.{◌≡◌, ℕ, zero, suc, ◌<◌, ◌≤◌, false, cond, eqb, ◌⊎◌, List, ◌∷◌, map, length, get_or, set, replicate, Option, unwrap_or, sym, refl, ap, ◌∙◌, inl, inr, arith, get_or-set_other, get_or-set_same}
 use lib.ListN
 use Rattle.memory.specs.Views.{listed, stripe_table, stripe_view, thread_table, thread_view}
 use Rattle.memory.specs.declared.stripes.Stripe.{Stripe as StripeCell}

@@ -4,7 +4,7 @@ use Rattle.common.specs.declared.refusal.Refusal.{Refusal}
 use Rattle.rules.specs.Admission.{admitted}
 use Rattle.rules.specs.Drain.{release}
 use Rattle.rules.specs.Outcomes.{Outcome, refuse, done}
-use Rattle.rules.specs.States.{State, World, thread_of}
+use Rattle.rules.specs.States.{World, thread_of}
 use Rattle.rules.specs.declared.answer.Answer.TheVariants.{Back}
 use Rattle.rules.specs.declared.ending.Ending.{Ending}
 use Rattle.rules.specs.declared.ending.Ending.TheVariants.{GivenUp, Lost as EndedLost}

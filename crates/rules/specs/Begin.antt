@@ -4,7 +4,7 @@ use Rattle.common.specs.declared.refusal.Refusal.{Refusal}
 use Rattle.common.specs.declared.refusal.Refusal.TheVariants.{RollPending}
 use Rattle.rules.specs.Admission.{admitted}
 use Rattle.rules.specs.Outcomes.{Outcome, refuse, done}
-use Rattle.rules.specs.States.{State, World, Thread, with_thread}
+use Rattle.rules.specs.States.{World, Thread, with_thread}
 use Rattle.rules.specs.declared.answer.Answer.TheVariants.{Done}
 use Rattle.rules.specs.declared.kind.Kind.TheVariants.{Begin}
 use Rattle.rules.specs.declared.phase.Phase.TheVariants.{Running}

@@ -2,14 +2,14 @@
 use Rattle.std.specs.Prelude.{ℕ, Bool, true, false, cond, not, ◌&&◌, List, [], ◌∷◌, ◌++◌, length, is_some, Some, None, Ok, Err, Option, Result, nat_le, nat_lt, slice_index}
 use Rattle.common.specs.declared.refusal.Refusal.{Refusal}
 use Rattle.common.specs.declared.refusal.Refusal.TheVariants.{NoSuchPlace, LogFull, StripeBusy}
-use Rattle.contention.specs.Events.{Event, word_loaded}
+use Rattle.contention.specs.Events.{word_loaded}
 use Rattle.layout.specs.Lookups.{first_with}
 use Rattle.layout.specs.SetUps.{stripe_of}
 use Rattle.layout.specs.declared.entries.WriteEntry.{WriteEntry}
 use Rattle.rules.specs.Admission.{admitted}
 use Rattle.rules.specs.Conflicts.{busy, refresh, contend}
 use Rattle.rules.specs.Outcomes.{Outcome, Step, Table, goes, loses, refuse, lost, done}
-use Rattle.rules.specs.States.{State, World, Thread, ReadMark, thread_of, stripe_at, with_thread, with_reads}
+use Rattle.rules.specs.States.{State, World, Thread, thread_of, stripe_at, with_thread, with_reads}
 use Rattle.rules.specs.declared.answer.Answer.TheVariants.{Word}
 use Rattle.rules.specs.declared.kind.Kind.TheVariants.{Load}
 

@@ -1,7 +1,7 @@
 -- The engine that nobody has called yet.
 use Rattle.std.specs.Prelude.{ℕ, false, List, []}
 use Rattle.layout.specs.declared.set_up.SetUp.{SetUp}
-use Rattle.rules.specs.Maps.{Map, everywhere}
+use Rattle.rules.specs.Maps.{everywhere}
 use Rattle.rules.specs.States.{State, World, Stripe, Thread}
 use Rattle.rules.specs.declared.phase.Phase.TheVariants.{Idle}
 

@@ -1,5 +1,5 @@
 -- seal: the transaction's place in the order of updaters, or a reader's end.
-use Rattle.std.specs.Prelude.{ℕ, ◌+◌, Bool, true, false, cond, List, [], ◌∷◌, length, Ok, Err, Result, ◌==◌, nat_le}
+use Rattle.std.specs.Prelude.{ℕ, ◌+◌, Bool, true, false, [], ◌∷◌, length, Ok, Err, Result, ◌==◌, nat_le}
 use Rattle.common.specs.declared.loss.Loss.TheVariants.{ClockSpent}
 use Rattle.common.specs.declared.refusal.Refusal.{Refusal}
 use Rattle.contention.specs.Events.{seal_of}

@@ -1,5 +1,5 @@
 -- What the engine keeps, and the edits of it that the rules are written with.
-use Rattle.std.specs.Prelude.{ℕ, Bool, true, List, []}
+use Rattle.std.specs.Prelude.{ℕ, Bool, true, List}
 use Rattle.common.specs.declared.loss.Loss.{Loss}
 use Rattle.layout.specs.declared.entries.WriteEntry.{WriteEntry}
 use Rattle.layout.specs.declared.set_up.SetUp.{SetUp}

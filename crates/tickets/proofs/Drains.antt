@@ -1,5 +1,5 @@
 -- How many words a thread has to drain before and after a drain.
-use Rattle.std.proofs.Common.{◌≡◌, ℕ, suc, ◌+◌, ◌-◌, ◌<◌, ◌≤◌, Bool, true, false, cond, eqb, ◌⊎◌, List, [], length, set, Some, None, Ok, Err, Option, Result, sym, refl, ap, ◌∙◌, inl, inr, arith}
+use Rattle.std.proofs.Common.{◌≡◌, ℕ, suc, ◌+◌, ◌-◌, ◌<◌, ◌≤◌, Bool, true, false, cond, eqb, ◌⊎◌, List, [], length, set, Some, None, Ok, Err, Option, Result, refl, ap, ◌∙◌, inl, inr, arith}
 use Rattle.common.specs.declared.refusal.Refusal.{Refusal}
 use Rattle.common.specs.declared.refusal.Refusal.TheVariants.{NoSuchThread, WrongState}
 use Rattle.layout.specs.declared.entries.WriteEntry.{WriteEntry}
@@ -7,8 +7,7 @@ use Rattle.rules.specs.Admission.{admitted, admission, is_thread}
 use Rattle.rules.specs.Drain.{drain, drain_admitted, drain_next, drain_sealed, release, settle}
 use Rattle.rules.specs.Maps.{Map, at, put}
 use Rattle.rules.specs.Outcomes.{Outcome, refuse}
-use Rattle.rules.specs.States.{State, World, Thread, enter, thread_of, with_phase}
-use Rattle.rules.specs.declared.answer.Answer.{Answer}
+use Rattle.rules.specs.States.{World, Thread, enter, thread_of, with_phase}
 use Rattle.rules.specs.declared.answer.Answer.TheVariants.{Left, Refused}
 use Rattle.rules.specs.declared.kind.Kind.TheVariants.{Drain}
 use Rattle.rules.specs.declared.phase.Phase.{Phase}
