@@ -17,7 +17,7 @@ use Rattle.rules.specs.States.{State, World, Stripe, Thread, thread_of}
 use Rattle.rules.specs.declared.answer.Answer.{Answer}
 use Rattle.rules.specs.declared.call.Call.{Call}
 use Rattle.std.proofs.lemmas.Bool.{cases_eq}
-use Rattle.std.specs.List.{AllByRecursion as All}
+use Rattle.std.specs.List.{AllByRecursion}
 
 module _ (ws : List ℕ) (base : ℕ) (w : World) (h : History) (beats : Table) (c : Call) (a : Answer) (es : List Event)
     (m : Bool) (ss : Map Stripe) (ts : Map Thread) (f : Fits ws base w h)
@@ -59,8 +59,8 @@ module _ (ws : List ℕ) (base : ℕ) (w : World) (h : History) (beats : Table) 
   pub alone_keeps_owners : ((s : ℕ) → front alone_state s ≡ front w.engine s) → alone_history.updaters ≡ h.updaters →
       Seated ws base w h (owner_of alone_state) (caller c) (at ts (caller c)) caller_after →
       ((n : ℕ) → (n ≡ caller c → ⊥) → Seated ws base w h (owner_of alone_state) n (thread_of w.engine n) (h.present n)) →
-      All (λ t. Point ws h.updaters t.work) alone_history.past →
-      All (λ t. Spared w.engine.set_up h.updaters t.work t.fall) alone_history.past →
+      AllByRecursion (λ t. Point ws h.updaters t.work) alone_history.past →
+      AllByRecursion (λ t. Spared w.engine.set_up h.updaters t.work t.fall) alone_history.past →
       Kept ws base w h beats c (quiet_outcome w a es alone_state)
   alone_keeps_owners fronts updaters own rest points spared = quiet_keeps ws base w h beats c a es m ss ts f (record {
     fronts = fronts;
@@ -87,8 +87,8 @@ pub alone_keeps : (ws : List ℕ) (base : ℕ) (w : World) (h : History) (beats 
     (alone_left w h beats c a es m ts).updaters ≡ h.updaters →
     Seated ws base w h (owner_of w.engine) (caller c) (at ts (caller c))
     (caller_after ws base w h beats c a es m w.engine.stripes ts f others free) →
-    All (λ t. Point ws h.updaters t.work) (alone_left w h beats c a es m ts).past →
-    All (λ t. Spared w.engine.set_up h.updaters t.work t.fall) (alone_left w h beats c a es m ts).past →
+    AllByRecursion (λ t. Point ws h.updaters t.work) (alone_left w h beats c a es m ts).past →
+    AllByRecursion (λ t. Spared w.engine.set_up h.updaters t.work t.fall) (alone_left w h beats c a es m ts).past →
     Kept ws base w h beats c (quiet_outcome w a es (quiet_state w.engine m w.engine.stripes ts))
 alone_keeps ws base w h beats c a es m ts f others free held updaters own points spared =
     alone_keeps_owners ws base w h beats c a es m w.engine.stripes ts f others free

@@ -24,7 +24,7 @@ use Rattle.rules.specs.declared.call.Call.{Call}
 use Rattle.rules.specs.declared.phase.Phase.{Phase}
 use Rattle.rules.specs.declared.phase.Phase.TheVariants.{Running, Lost}
 use Rattle.std.proofs.lemmas.Bool.{both_ways, cases_eq, or_cases}
-use Rattle.std.specs.List.{AllByRecursion as All}
+use Rattle.std.specs.List.{AllByRecursion}
 
 -- the call, by its answer, is one call more of its thread's transaction, and does this to its work
 pub record Goes_on (c : Call) (a : Answer) (m : ℕ) (more : Work → Work) : Type 0 where
@@ -229,8 +229,8 @@ module _ (ws : List ℕ) (base : ℕ) (w : World) (h : History) (beats : Table) 
         ∙ goes.updaters (acted c (length h.updaters) (h.present (caller c)) (deed c a)).work h.updaters;
     seats = seat_next;
     drains = drains_on;
-    past_points = subst (All (λ t. Point ws h.updaters t.work)) (sym (goes.past (h.present (caller c)) h.past)) f.past_points;
+    past_points = subst (AllByRecursion (λ t. Point ws h.updaters t.work)) (sym (goes.past (h.present (caller c)) h.past)) f.past_points;
     past_spared =
-        subst (All (λ t. Spared w.engine.set_up h.updaters t.work t.fall))
+        subst (AllByRecursion (λ t. Spared w.engine.set_up h.updaters t.work t.fall))
         (sym (goes.past (h.present (caller c)) h.past)) f.past_spared;
   })

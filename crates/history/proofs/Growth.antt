@@ -13,7 +13,7 @@ use Rattle.layout.specs.declared.set_up.SetUp.{SetUp}
 use Rattle.std.proofs.ByRecursion.{All-weaker}
 use Rattle.std.proofs.lemmas.List.{get_or_past}
 use Rattle.std.proofs.lemmas.Bool.{cases_lt, both_ways}
-use Rattle.std.specs.List.{AllByRecursion as All}
+use Rattle.std.specs.List.{AllByRecursion}
 
 -- the second list has the updaters of the first, with their threads and stores, at the same moments
 pub record Grows (ws : List ℕ) (us vs : List Work) : Type 0 where
@@ -83,12 +83,12 @@ module _ {ws : List ℕ} {us vs : List Work} (g : Grows ws us vs) where
   spared_grows u w (Some f) x = λ e. excused_grows u w f.moment f.cause (x e)
 
   -- the same of every transaction of a list: its point
-  pub points_grow : (ts : List Transaction) → All (λ t. Point ws us t.work) ts → All (λ t. Point ws vs t.work) ts
+  pub points_grow : (ts : List Transaction) → AllByRecursion (λ t. Point ws us t.work) ts → AllByRecursion (λ t. Point ws vs t.work) ts
   points_grow ts x = All-weaker (λ t. Point ws us t.work) (λ t. Point ws vs t.work) (λ t p. point_grows t.work p) ts x
 
   -- and that a leader was spared
   pub all_spared_grow : (u : SetUp) (ts : List Transaction) →
-      All (λ t. Spared u us t.work t.fall) ts → All (λ t. Spared u vs t.work t.fall) ts
+      AllByRecursion (λ t. Spared u us t.work t.fall) ts → AllByRecursion (λ t. Spared u vs t.work t.fall) ts
   all_spared_grow u ts x =
       All-weaker (λ t. Spared u us t.work t.fall) (λ t. Spared u vs t.work t.fall)
       (λ t p. spared_grows u t.work t.fall p) ts x

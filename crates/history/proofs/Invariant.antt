@@ -12,7 +12,7 @@ use Rattle.rules.specs.Conflicts.{owner_of}
 use Rattle.rules.specs.States.{State, World, Thread, ReadMark, thread_of, stripe_at}
 use Rattle.rules.specs.declared.phase.Phase.{Phase}
 use Rattle.rules.specs.declared.phase.Phase.TheVariants.{Idle, Running, Sealed, Lost}
-use Rattle.std.specs.List.{AllByRecursion as All}
+use Rattle.std.specs.List.{AllByRecursion}
 
 -- how a sealed thread holds its stripes: its ticket, and the entries that it has still to drain
 pub record Hold : Type 0 where
@@ -115,7 +115,7 @@ pub record RunningFits (u : SetUp) (ws : List ℕ) (us : List Work) (base : ℕ)
   pub so_far : w.loaded_at ≤ length us
   pub loads : LoadsAt ws us (base + t.snapshot) w
   pub covered : Covered u t.reads w
-  pub marks : All (λ e. MarkFits u us n w.begun t.snapshot (fs e.stripe) e) t.reads
+  pub marks : AllByRecursion (λ e. MarkFits u us n w.begun t.snapshot (fs e.stripe) e) t.reads
   pub others : (k : ℕ) → w.begun ≤ k → k < length us → (updater us k).thread ≡ n → ⊥
 
 -- a sealed transaction: it is the updater of its ticket, and its stripes are its own
@@ -188,5 +188,5 @@ pub record Fits (ws : List ℕ) (base : ℕ) (w : World) (h : History) : Type 0 
   pub seats : (n : ℕ) → Seated ws base w h (owner_of w.engine) n (thread_of w.engine n) (h.present n)
   pub spent : (k : ℕ) → k < length h.updaters → Spent w.engine h k
   pub loads : (k : ℕ) → k < length h.updaters → LoadsAt ws h.updaters k (updater h.updaters k)
-  pub past_points : All (λ t. Point ws h.updaters t.work) h.past
-  pub past_spared : All (λ t. Spared w.engine.set_up h.updaters t.work t.fall) h.past
+  pub past_points : AllByRecursion (λ t. Point ws h.updaters t.work) h.past
+  pub past_spared : AllByRecursion (λ t. Spared w.engine.set_up h.updaters t.work t.fall) h.past

@@ -3,7 +3,7 @@ use Rattle.std.proofs.Common.{◌≡◌, ℕ, zero, suc, Bool, true, false, cond
 use Rattle.layout.specs.Lookups.{first_with, has_key, replaced}
 use Rattle.rules.specs.Load.{capacity, grown, is_full}
 use Rattle.std.proofs.lemmas.Bool.{both_ways, cond-true, eq-eqb, eqb-false, eqb-true, leb-false, lt-ltb, ne_eqb, or_cases, or_from, or_left, or_parts, or_right}
-use Rattle.std.specs.List.{AllByRecursion as All}
+use Rattle.std.specs.List.{AllByRecursion}
 
 -- no two entries have the same key
 abbrev pub Once : {E : Type 0} → (E → ℕ) → List E → Type 0
@@ -36,7 +36,7 @@ module _ {E : Type 0} (key : E → ℕ) where
       go false x = refl
 
   -- what holds of every entry holds of one that has the key
-  pub entry_with_key : (k : ℕ) (P : E → Type 0) (es : List E) → All P es → has_key key k es ≡ true → (e : E) × (key e ≡ k) × P e
+  pub entry_with_key : (k : ℕ) (P : E → Type 0) (es : List E) → AllByRecursion P es → has_key key k es ≡ true → (e : E) × (key e ≡ k) × P e
   entry_with_key k P [] x has = absurd (both_ways false refl has)
   entry_with_key k P (e ∷ es) x has = go (or_cases (eqb (key e) k) (has_key key k es) has) (entry_with_key k P es x.1)
     where
@@ -158,7 +158,7 @@ module _ {E : Type 0} (key : E → ℕ) where
       )
 
 -- two facts of every entry
-pub all_both : {E : Type 0} (P Q : E → Type 0) (es : List E) → All P es → All Q es → All (λ e. P e × Q e) es
+pub all_both : {E : Type 0} (P Q : E → Type 0) (es : List E) → AllByRecursion P es → AllByRecursion Q es → AllByRecursion (λ e. P e × Q e) es
 all_both P Q [] x y = tt
 all_both P Q (e ∷ es) x y = ((x.0, y.0), all_both P Q es x.1 y.1)
 

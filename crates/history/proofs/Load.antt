@@ -35,7 +35,7 @@ use Rattle.rules.specs.declared.kind.Kind.TheVariants.{Load as Loading}
 use Rattle.rules.specs.declared.phase.Phase.TheVariants.{Running}
 use Rattle.std.proofs.ByRecursion.{All-push, All-weaker}
 use Rattle.std.proofs.lemmas.Bool.{ltb-false, ltb-true}
-use Rattle.std.specs.List.{AllByRecursion as All}
+use Rattle.std.specs.List.{AllByRecursion}
 
 -- a thread with another snapshot end and read log
 abbrev read_on : Thread → ℕ → List ReadMark → Thread
@@ -51,7 +51,7 @@ record Answered (u : SetUp) (ws : List ℕ) (us : List Work) (base : ℕ) (fs : 
   here : seen (words_at ws us (base + end)) (kept w.calls) a ≡ v
   only : (xs ys : List ℕ) → SameRead u rs xs ys → seen xs (kept w.calls) a ≡ seen ys (kept w.calls) a
   more : (s : ℕ) → has_stripe s t.reads ≡ true → has_stripe s rs ≡ true
-  marks : All (λ e. MarkFits u us n w.begun end (fs e.stripe) e) rs
+  marks : AllByRecursion (λ e. MarkFits u us n w.begun end (fs e.stripe) e) rs
 
 -- such a transaction runs on, with one loaded word more
 answered_fits : (u : SetUp) (ws : List ℕ) (us : List Work) (base : ℕ) (fs : ℕ → Front) (owner : ℕ → ℕ) (n a v end : ℕ)
@@ -136,7 +136,7 @@ module _ (ws : List ℕ) (base : ℕ) (w : World) (h : History) (beats : Table) 
         (omega (arith, fresh, ap (λ (x : ℕ). (stripe_at w.engine x).version) here))
 
     -- the marks stay, at a later snapshot end
-    marks_later : All (Marked w h n end) (thread_of w.engine n).reads
+    marks_later : AllByRecursion (Marked w h n end) (thread_of w.engine n).reads
     marks_later =
         All-weaker _ _ (λ e m. record { old = omega (arith, later, m.old); state = m.state }) (thread_of w.engine n).reads
         (running_fits (f.seats n) run).marks
@@ -144,7 +144,7 @@ module _ (ws : List ℕ) (base : ℕ) (w : World) (h : History) (beats : Table) 
     -- so the transaction is answered that word, if its read log has the stripe now
     answered_stored : (rs : List ReadMark) → has_stripe s rs ≡ true →
         ((x : ℕ) → has_stripe x (thread_of w.engine n).reads ≡ true → has_stripe x rs ≡ true) →
-        All (Marked w h n end) rs →
+        AllByRecursion (Marked w h n end) rs →
         Answered w.engine.set_up ws h.updaters base (front w.engine) n a (get_or w.words a 0) end (thread_of w.engine n)
         (h.present n).work rs
     answered_stored rs has more marks = record {

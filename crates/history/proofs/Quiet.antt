@@ -14,7 +14,7 @@ use Rattle.rules.specs.Outcomes.{Outcome, Table, over}
 use Rattle.rules.specs.States.{State, World, Stripe, Thread, thread_of}
 use Rattle.rules.specs.declared.answer.Answer.{Answer}
 use Rattle.rules.specs.declared.call.Call.{Call}
-use Rattle.std.specs.List.{AllByRecursion as All}
+use Rattle.std.specs.List.{AllByRecursion}
 
 -- the engine with its clock, and other marks, stripes and threads
 abbrev pub quiet_state : State → Bool → Map Stripe → Map Thread → State
@@ -30,8 +30,8 @@ pub record Quiet (ws : List ℕ) (base : ℕ) (w : World) (h : History) (st : St
   pub updaters : g.updaters ≡ h.updaters
   pub seats : (n : ℕ) → Seated ws base w h (owner_of st) n (thread_of st n) (g.present n)
   pub drains : (k : ℕ) → Draining w.engine h k → Draining st g k
-  pub past_points : All (λ t. Point ws h.updaters t.work) g.past
-  pub past_spared : All (λ t. Spared w.engine.set_up h.updaters t.work t.fall) g.past
+  pub past_points : AllByRecursion (λ t. Point ws h.updaters t.work) g.past
+  pub past_spared : AllByRecursion (λ t. Spared w.engine.set_up h.updaters t.work t.fall) g.past
 
 -- a quiet call keeps the invariant, once that is shown
 pub quiet_keeps : (ws : List ℕ) (base : ℕ) (w : World) (h : History) (beats : Table) (c : Call) (a : Answer) (es : List Event)
@@ -57,8 +57,8 @@ quiet_keeps ws base w h beats c a es m ss ts f q = record {
     loads = λ k l.
         subst (λ (vs : List Work). LoadsAt ws vs k (updater vs k)) (sym q.updaters)
         (f.loads k (subst (λ (vs : List Work). k < length vs) q.updaters l));
-    past_points = subst (λ (vs : List Work). All (λ t. Point ws vs t.work) g.past) (sym q.updaters) q.past_points;
-    past_spared = subst (λ (vs : List Work). All (λ t. Spared u vs t.work t.fall) g.past) (sym q.updaters) q.past_spared;
+    past_points = subst (λ (vs : List Work). AllByRecursion (λ t. Point ws vs t.work) g.past) (sym q.updaters) q.past_points;
+    past_spared = subst (λ (vs : List Work). AllByRecursion (λ t. Spared u vs t.work t.fall) g.past) (sym q.updaters) q.past_spared;
   };
 }
   where

@@ -16,7 +16,7 @@ use Rattle.rules.specs.declared.phase.Phase.TheVariants.{Running}
 use Rattle.std.proofs.ByRecursion.{All-weaker}
 use Rattle.std.proofs.lemmas.List.{take_all}
 use Rattle.std.proofs.lemmas.Bool.{and_parts, eq-eqb, eqb-true, and_from, both_ways, not-true, not_from_false}
-use Rattle.std.specs.List.{AllByRecursion as All}
+use Rattle.std.specs.List.{AllByRecursion}
 
 module _ (ws : List ℕ) (base : ℕ) (w : World) (h : History) (f : Fits ws base w h) where
   -- the words of a stripe that is not held are those of every moment from its version on
@@ -37,18 +37,18 @@ free_word_agrees ws base w h a m f l free low =
     sym (word_stays ws base w h f (stripe_of w.engine.set_up a) a m refl free low) ∙ free_word_stored f a l free
 
 -- a read log with no invalid entry has only valid ones
-valid_entries : (st : State) (n : ℕ) (es : List ReadMark) → first_invalid st n es ≡ None → All (λ e. is_valid st n e ≡ true) es
+valid_entries : (st : State) (n : ℕ) (es : List ReadMark) → first_invalid st n es ≡ None → AllByRecursion (λ e. is_valid st n e ≡ true) es
 valid_entries st n [] x = tt
 valid_entries st n (e ∷ es) x = go (is_valid st n e) refl x (valid_entries st n es)
   where
     go : (b : Bool) → is_valid st n e ≡ b → cond b (first_invalid st n es) (Some e.stripe) ≡ None →
-        (first_invalid st n es ≡ None → All (λ y. is_valid st n y ≡ true) es) →
-        (is_valid st n e ≡ true) × All (λ y. is_valid st n y ≡ true) es
+        (first_invalid st n es ≡ None → AllByRecursion (λ y. is_valid st n y ≡ true) es) →
+        (is_valid st n e ≡ true) × AllByRecursion (λ y. is_valid st n y ≡ true) es
     go true p q later = (p, later q)
     go false p q later = absurd (let z : ◌≡◌ {A = ℕ} 0 1 = cc in omega arith)
 
 -- the first invalid entry is one of them
-invalid_entry : (st : State) (n s : ℕ) (P : ReadMark → Type 0) (es : List ReadMark) → All P es → first_invalid st n es ≡ Some s →
+invalid_entry : (st : State) (n s : ℕ) (P : ReadMark → Type 0) (es : List ReadMark) → AllByRecursion P es → first_invalid st n es ≡ Some s →
     (e : ReadMark) × (e.stripe ≡ s) × (is_valid st n e ≡ false) × P e
 invalid_entry st n s P [] all x = absurd (let z : ◌≡◌ {A = ℕ} 0 1 = cc in omega arith)
 invalid_entry st n s P (e ∷ es) all x = go (is_valid st n e) refl x (invalid_entry st n s P es all.1)
@@ -76,7 +76,7 @@ module _ (ws : List ℕ) (base : ℕ) (w : World) (h : History) (n : ℕ) (f : F
   abbrev ValidOld : ReadMark → Type 0
   ValidOld e = (is_valid w.engine n e ≡ true) × (e.version ≤ (thread_of w.engine n).snapshot)
 
-  present_loads : All (λ e. is_valid w.engine n e ≡ true) (thread_of w.engine n).reads →
+  present_loads : AllByRecursion (λ e. is_valid w.engine n e ≡ true) (thread_of w.engine n).reads →
       loaded_on (serial_run ws h.updaters) (h.present n).work.calls ≡ (h.present n).work.loaded
   present_loads valid =
       (running_fits (f.seats n) run).covered
@@ -89,7 +89,7 @@ module _ (ws : List ℕ) (base : ℕ) (w : World) (h : History) (n : ℕ) (f : F
           get_or (serial_run ws h.updaters) a 0 ≡ get_or (words_at ws h.updaters (base + (thread_of w.engine n).snapshot)) a 0
       agrees a x = valid_words a x.0 x.1 x.2.0 x.2.1
 
-      old : All ValidOld (thread_of w.engine n).reads
+      old : AllByRecursion ValidOld (thread_of w.engine n).reads
       old =
           all_both (λ e. is_valid w.engine n e ≡ true) (λ e. e.version ≤ (thread_of w.engine n).snapshot)
           (thread_of w.engine n).reads valid

@@ -7,7 +7,7 @@ use Rattle.history.specs.Serial.{kept, loaded_on, serial_run, put_in, all_not_dr
 use Rattle.layout.specs.Lookups.{has_key}
 use Rattle.layout.specs.SetUps.{stripe_of}
 use Rattle.layout.specs.declared.set_up.SetUp.{SetUp}
-use Rattle.std.specs.List.{AllByRecursion as All}
+use Rattle.std.specs.List.{AllByRecursion}
 
 -- the updater of a number
 abbrev pub updater : List Work → ℕ → Work
@@ -38,7 +38,7 @@ pub record Point (ws : List ℕ) (us : List Work) (w : Work) : Type 0 where
 -- something holds of every transaction ever begun
 pub record OfAll (P : Transaction → Type 0) (h : History) : Type 0 where
   pub latest : (n : ℕ) → P (h.present n)
-  pub earlier : All P h.past
+  pub earlier : AllByRecursion P h.past
 
 -- every transaction, also a running or a lost one, has such a moment
 abbrev pub PointsExist : List ℕ → History → Type 0

@@ -1,15 +1,15 @@
 -- What a form is, whatever reads it.
 use Rattle.std.specs.Prelude.{◌≡◌, ℕ, ◌+◌, ◌<◌, true, List, [], ◌∷◌, ◌++◌, length, take, is_ok, Err, Decides, Result, ◌≢◌}
-use Rattle.std.specs.List.{AllByRecursion as All}
+use Rattle.std.specs.List.{AllByRecursion}
 use Rattle.text.specs.Bytes.{is_letter, is_digit}
 use Rattle.text.specs.Lines.{Line}
 use Rattle.text.specs.declared.text_fault.TextFault.{TextFault}
 
 abbrev pub Letters : List ℕ → Type 0
-Letters bs = All (λ b. is_letter b ≡ true) bs
+Letters bs = AllByRecursion (λ b. is_letter b ≡ true) bs
 
 abbrev pub Digits : List ℕ → Type 0
-Digits bs = All (λ b. is_digit b ≡ true) bs
+Digits bs = AllByRecursion (λ b. is_digit b ≡ true) bs
 
 -- a name: one letter or more
 pub data Name : List ℕ → Type 0 where
