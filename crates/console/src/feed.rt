@@ -68,7 +68,7 @@ impl Feed {
         let count = rt.stdin().read(&mut chunk)?;
         self.bytes.extend_from_slice(&chunk[0..count])?;
         if self.bytes.len() > MOST_BYTES {
-            return Err(TOO_LONG.into());
+            return Err(anyhow::Error::msg(TOO_LONG));
         }
         Ok(count > 0)
     }

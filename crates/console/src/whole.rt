@@ -10,7 +10,7 @@ pub const TOO_LONG: &str = "refused (51): a script has at most 32768 bytes";
 pub fn answer_file(rt: &HostRuntime, path: &str) -> anyhow::Result<()> {
     let script = fs::read(rt, path)?;
     if script.len() > MOST_BYTES {
-        return Err(TOO_LONG.into());
+        return Err(anyhow::Error::msg(TOO_LONG));
     }
     let room = line_count(&script).saturating_mul(32);
     let mut output = vec![in rt.alloc(); 0u8; room]?;
@@ -20,6 +20,6 @@ pub fn answer_file(rt: &HostRuntime, path: &str) -> anyhow::Result<()> {
             rt.stdout().write_all(&output)?;
             Ok(())
         }
-        Err(_) => Err(TOO_LONG.into()),
+        Err(_) => Err(anyhow::Error::msg(TOO_LONG)),
     }
 }

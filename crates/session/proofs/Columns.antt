@@ -1,5 +1,5 @@
 -- Where the columns of a line's reply lie.
-use Rattle.std.proofs.Common.{◌≡◌, ℕ, zero, suc, ◌+◌, ◌≤◌, Bool, true, false, cond, eqb, leb, List, [], ◌∷◌, length, Ok, Err, Result, sym, refl, ap, ◌∙◌, arith}
+use Rattle.std.proofs.Common.{◌≡◌, ℕ, ◌+◌, ◌≤◌, Bool, true, false, cond, eqb, leb, List, [], ◌∷◌, length, Ok, Err, Result, refl, ap, arith}
 use Rattle.common.specs.declared.refusal.Refusal.{Refusal}
 use Rattle.forms.proofs.Columns.{columns_within}
 use Rattle.forms.specs.Forms.{form_of}

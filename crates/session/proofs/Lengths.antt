@@ -1,10 +1,10 @@
 -- How long printed faults are.
-use Rattle.std.proofs.Common.{◌≡◌, ℕ, ◌+◌, ◌^◌, ◌<◌, ◌≤◌, List, [], ◌∷◌, length, decimal, refl, arith, lit<, length-append}
+use Rattle.std.proofs.Common.{◌≡◌, ℕ, ◌+◌, ◌^◌, ◌<◌, ◌≤◌, [], ◌∷◌, length, refl, arith, lit<, length-append}
 use Rattle.forms.specs.Faults.{fault_number, fault_column}
 use Rattle.forms.specs.declared.form_fault.FormFault.{FormFault}
 use Rattle.forms.specs.declared.form_fault.FormFault.TheVariants.{Text, Name, Item, Order}
 use Rattle.printing.proofs.Lengths.{length_form}
-use Rattle.printing.specs.Forms.{form_text, items_text}
+use Rattle.printing.specs.Forms.{items_text}
 use Rattle.session.specs.Replies.{fault_layer, fault_text}
 use Rattle.std.proofs.lemmas.Fmt.{length-decimal-le}
 

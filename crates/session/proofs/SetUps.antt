@@ -1,12 +1,12 @@
 -- A set-up is known by its four numbers.
-use Rattle.std.proofs.Common.{◌≡◌, ℕ, ◌≤◌, Bool, true, false, cond, Ok, Err, Result, sym, refl, ap, ◌∙◌, arith}
+use Rattle.std.proofs.Common.{◌≡◌, ℕ, ◌≤◌, Bool, true, false, Ok, Err, Result, sym, refl, ap, ◌∙◌, arith}
 use native.Mathlib.Bridge.{le_prop}
 use Rattle.std.proofs.lemmas.Bool.Decides.{nat_tests}
 use mathlib.Core.Bool.{Bool-set}
 use mathlib.Core.HLevel.{is_prop→PathP}
 use Rattle.common.specs.declared.refusal.Refusal.{Refusal}
 use Rattle.layout.specs.Limits.{thread_count, stripe_count, shift_width, clock_limit}
-use Rattle.layout.specs.SetUps.{Numbers, numbers, numbers_of, set_up_or_refusal}
+use Rattle.layout.specs.SetUps.{numbers, numbers_of, set_up_or_refusal}
 use Rattle.layout.specs.declared.set_up.SetUp.{SetUp}
 use Rattle.session.specs.SetUps.{threaded, striped, shifted, limited, set_up_of}
 

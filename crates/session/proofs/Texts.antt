@@ -16,7 +16,6 @@ use Rattle.session.specs.Replies.{reply_text}
 use Rattle.session.specs.Scripts.{lines_text, policy_text, script_text}
 use Rattle.session.specs.SetUps.{set_up_of}
 use Rattle.session.specs.Turns.{line_turn}
-use Rattle.session.specs.declared.opening.Opening.{Opening}
 use Rattle.session.specs.declared.opening.Opening.TheVariants.{Answered, Made}
 use Rattle.session.specs.declared.reply.Reply.{Reply}
 use Rattle.text.specs.Lines.{Line}

@@ -1,14 +1,14 @@
 -- How much a line prints.
 use Rattle.std.specs.Prelude.{ℕ, ◌+◌, ◌*◌, ◌≤◌, List, length}
 use Rattle.forms.specs.Faults.{fault_column}
-use Rattle.session.specs.Replies.{reply_text}
 use Rattle.session.specs.declared.reply.Reply.{Reply}
-use Rattle.session.specs.declared.reply.Reply.TheVariants.{Answered, Points, Lock, Fault}
+use Rattle.session.specs.declared.reply.Reply.TheVariants.{Answered, EngineRefused, Points, Lock, Fault}
 use Rattle.text.specs.Lines.{lines}
 
 -- the column that a reply names, if it is a fault
 abbrev pub reply_column : Reply → ℕ
 reply_column (Answered a) = 0
+reply_column (EngineRefused r) = 0
 reply_column (Points p) = 0
 reply_column (Lock b) = 0
 reply_column (Fault f) = fault_column f

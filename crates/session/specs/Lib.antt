@@ -1,3 +1,4 @@
+pub mod ConsoleRefusals
 pub mod Lengths
 pub mod Openings
 pub mod Replies

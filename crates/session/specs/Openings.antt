@@ -1,7 +1,6 @@
 -- What a line does before there is an engine.
 use Rattle.std.specs.Prelude.{Bool, true, false, Ok, Err, Result, nat_le}
 use Rattle.common.specs.declared.refusal.Refusal.{Refusal}
-use Rattle.common.specs.declared.refusal.Refusal.TheVariants.{WordCount}
 use Rattle.forms.specs.Forms.{form_of}
 use Rattle.forms.specs.declared.form.EngineForm.{EngineForm}
 use Rattle.forms.specs.declared.form.Form.{Form}
@@ -11,15 +10,16 @@ use Rattle.forms.specs.declared.form_fault.FormFault.TheVariants.{Order}
 use Rattle.layout.specs.declared.set_up.SetUp.{SetUp}
 use Rattle.rules.specs.declared.answer.Answer.TheVariants.{Refused}
 use Rattle.session.specs.SetUps.{set_up_of}
+use Rattle.session.specs.declared.console_refusal.ConsoleRefusal.TheVariants.{WordCount}
 use Rattle.session.specs.declared.opening.Opening.{Opening}
 use Rattle.session.specs.declared.opening.Opening.TheVariants.{Answered as Says, Made}
-use Rattle.session.specs.declared.reply.Reply.TheVariants.{Answered, Fault}
+use Rattle.session.specs.declared.reply.Reply.TheVariants.{Answered, EngineRefused, Fault}
 use Rattle.text.specs.Lines.{Line}
 
 -- a console's engine has at most 256 words
 abbrev pub sized_opening : EngineForm → SetUp → Bool → Opening
 sized_opening e u true = Made u e
-sized_opening e u false = Says (Answered (Refused WordCount))
+sized_opening e u false = Says (EngineRefused WordCount)
 
 -- the set-up counts before the words
 abbrev pub set_up_opening : EngineForm → Result SetUp Refusal → Opening

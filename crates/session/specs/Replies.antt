@@ -10,8 +10,9 @@ use Rattle.rules.specs.declared.answer.Answer.{Answer}
 use Rattle.rules.specs.declared.answer.Answer.TheVariants.{Done, Word, Sealed, Left, Back, Refused, Lost}
 use Rattle.rules.specs.declared.ending.Sealed.{Sealed as Seal}
 use Rattle.rules.specs.declared.ending.Sealed.TheVariants.{Reader, Updater}
+use Rattle.session.specs.ConsoleRefusals.{console_refusal_number}
 use Rattle.session.specs.declared.reply.Reply.{Reply}
-use Rattle.session.specs.declared.reply.Reply.TheVariants.{Answered, Points, Lock, Fault}
+use Rattle.session.specs.declared.reply.Reply.TheVariants.{Answered, EngineRefused, Points, Lock, Fault}
 
 -- a reader's seal shows its snapshot end, an updater's its ticket
 abbrev pub seal_text : Seal → List ℕ
@@ -42,6 +43,7 @@ fault_text f = form_text (fault_layer f) (fault_number f ∷ fault_column f ∷ 
 -- what a line is answered
 abbrev pub reply_text : Reply → List ℕ
 reply_text (Answered a) = answer_text a
+reply_text (EngineRefused r) = form_text (codes "refused") (console_refusal_number r ∷ [])
 reply_text (Points p) = form_text (codes "points") (p.load ∷ p.take ∷ [])
 reply_text (Lock b) = form_text (codes "lock") (b ∷ [])
 reply_text (Fault f) = fault_text f

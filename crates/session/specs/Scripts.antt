@@ -13,7 +13,6 @@ use Rattle.rules.specs.States.{World}
 use Rattle.session.specs.Openings.{opening}
 use Rattle.session.specs.Replies.{reply_text}
 use Rattle.session.specs.Turns.{line_turn}
-use Rattle.session.specs.declared.opening.Opening.{Opening}
 use Rattle.session.specs.declared.opening.Opening.TheVariants.{Answered, Made}
 use Rattle.session.specs.declared.reply.Reply.TheVariants.{Points as PointsReply}
 use Rattle.text.specs.Lines.{Line}

@@ -1,6 +1,7 @@
 // A script of forms, answered line by line: before an engine is made, and then on a memory of any store and policy.
 #![tactic(auto)]
 
+pub mod console_refusal;
 pub mod opening;
 pub mod reply;
 pub mod run;

@@ -3,6 +3,7 @@ ghost use Rattle.session.specs.Openings.{engine_opening, opening};
 ghost use Rattle.session.specs.SetUps.{set_up_of};
 ghost use Rattle.text.specs.Views.{line_view};
 
+use crate::console_refusal::ConsoleRefusal;
 use crate::reply::Reply;
 use common::refusal::Refusal;
 use forms::form::{EngineForm, Form};
@@ -43,7 +44,7 @@ fn open_engine(engine: EngineForm) -> Opening
             if engine.words <= MOST_WORDS {
                 Opening::Made { set_up, engine }
             } else {
-                Opening::Answered(Reply::refused(Refusal::WordCount))
+                Opening::Answered(Reply::EngineRefused(ConsoleRefusal::WordCount))
             }
         }
         Err(refusal) => Opening::Answered(Reply::refused(refusal)),

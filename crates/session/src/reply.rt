@@ -5,6 +5,7 @@ ghost use Rattle.session.specs.Lengths.{Brief};
 ghost use Rattle.session.specs.declared.reply.Reply.TheVariants.{Fault};
 ghost use Rattle.session.specs.Replies.{answer_text, fault_layer, fault_text, reply_text};
 
+use crate::console_refusal::ConsoleRefusal;
 use common::refusal::Refusal;
 use contention::policy::Points;
 use forms::form_fault::FormFault;
@@ -17,6 +18,8 @@ use rules::ending::Sealed;
 pub enum Reply {
     // What a call answered, or why a form was refused.
     Answered(Answer),
+    // Why the console refused an engine form whose set-up is right.
+    EngineRefused(ConsoleRefusal),
     // The points of a new engine's policy.
     Points(Points),
     // The lock word of a stripe.
@@ -41,6 +44,9 @@ impl Reply {
     {
         match self {
             Reply::Answered(answer) => print_answer(answer, output, at),
+            Reply::EngineRefused(refusal) => {
+                print_one(output, at, b"refused", u64::from(refusal.number()))
+            }
             Reply::Points(Points { load, take }) => print_two(output, at, b"points", load, take),
             Reply::Lock(bits) => print_one(output, at, b"lock", bits),
             Reply::Fault(fault) => print_fault(fault, output, at),

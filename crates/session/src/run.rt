@@ -2,8 +2,8 @@ ghost use Rattle.std.specs.Prelude.{◌≡◌, ◌*◌, ◌≤◌, ◌++◌, len
 ghost use Rattle.session.specs.Runs.{script_answer, script_output, script_printed};
 ghost use Rattle.text.specs.Lines.{lines};
 
+use crate::console_refusal::ConsoleRefusal;
 use crate::script::answer_script;
-use common::refusal::Refusal;
 use text::line::line_count;
 
 // The most bytes that a script has.
@@ -14,16 +14,16 @@ pub const BYTES_FOR_A_LINE: usize = 32;
 
 // Answers a whole script into the output, and answers how many bytes it wrote. Bytes behind these stay as they were.
 // A script that is too long, or an output that is too short for it, is refused and changes nothing.
-pub fn run_script(script: &[u8], output: &mut [u8]) -> Result<usize, Refusal>
+pub fn run_script(script: &[u8], output: &mut [u8]) -> Result<usize, ConsoleRefusal>
     ensures answer { result ≡ script_answer script.now (length output.old) }
     ensures after { output.new ≡ script_output script.now output.old }
     ensures few { IfOk result (λ n. n ≤ 1048576) }
 {
     if script.len() > MOST_BYTES {
-        return Err(Refusal::LongScript);
+        return Err(ConsoleRefusal::LongScript);
     }
     if output.len() < BYTES_FOR_A_LINE * line_count(script) {
-        return Err(Refusal::ShortOutput);
+        return Err(ConsoleRefusal::ShortOutput);
     }
     Ok(answer_whole(script, output))
 }

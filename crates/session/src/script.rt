@@ -72,9 +72,9 @@ fn run_policy<S: WordStore + Drop>(
     output: &mut [u8],
     at: usize,
 ) -> usize
-    ensures after { output.new ≡ laid at (policy_text policy (new_world set_up (words store)) (lines script.now)) output.old }
-    ensures end { result ≡ end_of at (policy_text policy (new_world set_up (words store)) (lines script.now)) (length output.old) }
-    ensures brief { BriefLines 1 script.now (policy_text policy (new_world set_up (words store)) (lines script.now)) }
+    ensures after { output.new ≡ laid at (policy_text policy (new_world set_up (S.words store)) (lines script.now)) output.old }
+    ensures end { result ≡ end_of at (policy_text policy (new_world set_up (S.words store)) (lines script.now)) (length output.old) }
+    ensures brief { BriefLines 1 script.now (policy_text policy (new_world set_up (S.words store)) (lines script.now)) }
 {
     match policy {
         PolicyName::Suicide => run_engine(set_up, store, Suicide, script, output, at),
@@ -93,9 +93,9 @@ fn run_engine<S: WordStore + Drop, P: Policy + Drop>(
     output: &mut [u8],
     at: usize,
 ) -> usize
-    ensures after { output.new ≡ laid at (engine_text points table moved policy (new_world set_up (words store)) (lines script.now)) output.old }
-    ensures end { result ≡ end_of at (engine_text points table moved policy (new_world set_up (words store)) (lines script.now)) (length output.old) }
-    ensures brief { BriefLines 1 script.now (engine_text points table moved policy (new_world set_up (words store)) (lines script.now)) }
+    ensures after { output.new ≡ laid at (engine_text P.points P.table P.moved policy (new_world set_up (S.words store)) (lines script.now)) output.old }
+    ensures end { result ≡ end_of at (engine_text P.points P.table P.moved policy (new_world set_up (S.words store)) (lines script.now)) (length output.old) }
+    ensures brief { BriefLines 1 script.now (engine_text P.points P.table P.moved policy (new_world set_up (S.words store)) (lines script.now)) }
 {
     let behind = Reply::Points(P::points()).print(output, at);
     let mut memory = Memory::new(set_up, store, policy);
@@ -109,9 +109,9 @@ fn answer_lines<S: WordStore, P: Policy>(
     output: &mut [u8],
     start: usize,
 ) -> usize
-    ensures after { output.new ≡ laid start (lines_text table moved memory.old.policy (world words memory.old) (lines script.now)) output.old }
-    ensures end { result ≡ end_of start (lines_text table moved memory.old.policy (world words memory.old) (lines script.now)) (length output.old) }
-    ensures brief { BriefLines 0 script.now (lines_text table moved memory.old.policy (world words memory.old) (lines script.now)) }
+    ensures after { output.new ≡ laid start (lines_text P.table P.moved memory.old.policy (world S.words memory.old) (lines script.now)) output.old }
+    ensures end { result ≡ end_of start (lines_text P.table P.moved memory.old.policy (world S.words memory.old) (lines script.now)) (length output.old) }
+    ensures brief { BriefLines 0 script.now (lines_text P.table P.moved memory.old.policy (world S.words memory.old) (lines script.now)) }
 {
     let mut rest = script;
     let mut at = start;

@@ -13,7 +13,7 @@ use text::line::Line;
 
 // Answers one line of a script on a memory: makes its call, or says why there is none.
 pub fn answer_line<S: WordStore, P: Policy>(memory: &mut Memory<S, P>, line: Line<'_>) -> Reply
-    ensures { Spoke words home moved memory.old memory.new result (line_turn (table memory.old.policy) (world words memory.old) (line_view line.entry)) }
+    ensures { Spoke S.words S.home P.moved memory.old memory.new result (line_turn (P.table memory.old.policy) (world S.words memory.old) (line_view line.entry)) }
 {
     match read_form(line, true) {
         Ok(Form::Call(call)) => Reply::Answered(memory.perform(call)),

@@ -7,7 +7,7 @@ use Rattle.session.specs.Runs.{script_printed}
 pub returns : goal.returns
 returns c =
     let text = script_printed c.args.script.now in
-    let done = c.answer-script.ensures in
+    let done = c.answer_script.ensures in
     let short = done.brief c.requires.0 in
     let fits : length text ≤ length c.args.output.now = omega (arith, short, c.requires.1) in
     let end = end_fits 0 text (length c.args.output.now) (omega (arith, fits)) in

@@ -3,5 +3,5 @@ use Rattle.session.proofs.Columns.{lines_few}
 use Rattle.session.proofs.run.run_script.Goals as goal
 
 -- there are no more lines than bytes, so the room for them is a small number
-pub overflow-mul-line-count : goal.overflow-mul-line-count
-overflow-mul-line-count c = omega (arith, c.line-count.ensures, lines_few c.args.script.now)
+pub overflow_mul-line_count : goal.overflow_mul-line_count
+overflow_mul-line_count c = omega (arith, c.line_count.ensures, lines_few c.args.script.now)

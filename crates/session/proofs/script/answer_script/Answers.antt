@@ -17,8 +17,8 @@ loop-cut-init c = (
 )
 
 -- an engine that was made has at most 256 words
-pub run-kind-requires : goal.run-kind-requires
-run-kind-requires c = made_words c.in-Made.engine c.in-Made.set_up (line_view c.in-Some.cut.first) c.in-Made.ensures
+pub run_kind-requires : goal.run_kind-requires
+run_kind-requires c = made_words c.in-Made.engine c.in-Made.set_up (line_view c.in-Some.cut.first) c.in-Made.ensures
 
 pub returns-in-Made : goal.returns-in-Made
 returns-in-Made c =
@@ -29,11 +29,11 @@ returns-in-Made c =
     underway_last (policy_text engine.policy (new_world c.in-Made.set_up (replicate engine.words 0)) rest)
     c.loop-cut.invariant.0
     (script_text_made c.in-Made.set_up engine (line_view c.in-Some.cut.first) rest (lines c.loop-cut.rest.now) cut.lines c.in-Made.ensures)
-    c.run-kind.ensures.after
-    c.run-kind.ensures.end
+    c.run_kind.ensures.after
+    c.run_kind.ensures.end
     (λ small.
     let within : length c.in-Some.cut.rest.now ≤ 32768 = omega (arith, cut.shorter, c.loop-cut.invariant.1) in
-    omega (arith, c.run-kind.ensures.brief within, ap length cut.lines)) in
+    omega (arith, c.run_kind.ensures.brief within, ap length cut.lines)) in
     record { after = done.all.output; end = done.all.place; brief = λ small. omega (arith, done.short small) }
 
 pub loop-cut-preserved : goal.loop-cut-preserved
@@ -55,5 +55,5 @@ loop-cut-preserved c =
 
 pub returns : goal.returns
 returns c =
-    let done = underway_all c.loop-cut.invariant.0 (script_text_none (lines c.loop-cut.rest.now) c.in-default.ensures.lines) in
+    let done = underway_all c.loop-cut.invariant.0 (script_text_none (lines c.loop-cut.rest.now) c.in_default.ensures.lines) in
     record { after = done.all.output; end = done.all.place; brief = λ small. omega (arith, done.short small) }

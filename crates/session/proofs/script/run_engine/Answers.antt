@@ -1,4 +1,4 @@
-use Rattle.std.proofs.Common.{◌≡◌, ℕ, List, ◌++◌, length, ap, ◌∙◌, arith, length-append}
+use Rattle.std.proofs.Common.{◌≡◌, ◌++◌, length, ap, ◌∙◌, arith, length-append}
 use Rattle.memory.specs.Memories.{world}
 use Rattle.printing.proofs.Printed.{printed, printed_as, printed_more}
 use Rattle.rules.specs.NewEngine.{new_world}
@@ -21,7 +21,7 @@ returns g c =
     ap (λ w. lines_text table moved memory.policy w script) c.new-memory.ensures.all_new
     ∙ ap (λ p. lines_text table moved p (new_world c.args.set_up (words c.args.store)) script) c.new-memory.ensures.policy in
     let first = printed c.args.at points c.args.output.now c.print-behind.new.output c.print-behind.result c.print-behind.ensures.after c.print-behind.ensures.end in
-    let second = printed c.print-behind.result text c.print-behind.new.output c.answer-lines.new.output c.answer-lines.result c.answer-lines.ensures.after c.answer-lines.ensures.end in
+    let second = printed c.print-behind.result text c.print-behind.new.output c.answer_lines.new.output c.answer_lines.result c.answer_lines.ensures.after c.answer_lines.ensures.end in
     let same-all : points ++ text ≡ engine_text g.P.Policy.points table moved c.args.policy (new_world c.args.set_up (words c.args.store)) script =
     ap (λ t. points ++ t) same_text
     ∙ ap (λ p. engine_text p table moved c.args.policy (new_world c.args.set_up (words c.args.store)) script) c.points.ensures in
@@ -31,6 +31,6 @@ returns g c =
       end = all.place;
       brief = λ small.
           let first-brief = c.print-behind.ensures.brief (omega arith) in
-          let rest-brief = c.answer-lines.ensures.brief small in
+          let rest-brief = c.answer_lines.ensures.brief small in
           omega (arith, length-append points text, first-brief, rest-brief, ap length same-all);
     }

@@ -15,9 +15,9 @@ returns-in-Plain c =
     let zeros = ap held lent ∙ cells_of_zeros words c.requires in
     let text = λ (ws : List ℕ). policy_text c.args.engine.policy (new_world c.args.set_up ws) (lines c.args.script.now) in
     record {
-      after = c.run-policy.ensures.after ∙ ap (λ ws. laid c.args.at (text ws) c.args.output.now) zeros;
-      end = c.run-policy.ensures.end ∙ ap (λ ws. end_of c.args.at (text ws) (length c.args.output.now)) zeros;
-      brief = λ small. omega (arith, c.run-policy.ensures.brief small, ap (λ ws. length (text ws)) zeros);
+      after = c.run_policy.ensures.after ∙ ap (λ ws. laid c.args.at (text ws) c.args.output.now) zeros;
+      end = c.run_policy.ensures.end ∙ ap (λ ws. end_of c.args.at (text ws) (length c.args.output.now)) zeros;
+      brief = λ small. omega (arith, c.run_policy.ensures.brief small, ap (λ ws. length (text ws)) zeros);
     }
 
 pub returns-in-Registers : goal.returns-in-Registers
@@ -27,7 +27,7 @@ returns-in-Registers c =
     let zeros = ap (λ l. held (paired l)) lent ∙ registers_of_zeros words c.requires in
     let text = λ (ws : List ℕ). policy_text c.args.engine.policy (new_world c.args.set_up ws) (lines c.args.script.now) in
     record {
-      after = c.run-policy-in-Registers.ensures.after ∙ ap (λ ws. laid c.args.at (text ws) c.args.output.now) zeros;
-      end = c.run-policy-in-Registers.ensures.end ∙ ap (λ ws. end_of c.args.at (text ws) (length c.args.output.now)) zeros;
-      brief = λ small. omega (arith, c.run-policy-in-Registers.ensures.brief small, ap (λ ws. length (text ws)) zeros);
+      after = c.run_policy-in-Registers.ensures.after ∙ ap (λ ws. laid c.args.at (text ws) c.args.output.now) zeros;
+      end = c.run_policy-in-Registers.ensures.end ∙ ap (λ ws. end_of c.args.at (text ws) (length c.args.output.now)) zeros;
+      brief = λ small. omega (arith, c.run_policy-in-Registers.ensures.brief small, ap (λ ws. length (text ws)) zeros);
     }
