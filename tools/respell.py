@@ -4,7 +4,8 @@
 usage: tools/respell.py [--list]     at the top of the checkout, once; --list only prints old and new names
 
 A name is its own if a file of crates/*/specs, or one that stands right in crates/*/proofs, defines it. What the checker
-names after the code (the files of proofs/F/) keeps its name, and so do strings and the text of src/ outside of clauses.
+names after the code (the files of proofs/F/) keeps its name, and so does the text of .rt files outside of clauses and
+imports. Files of specs/ and proofs/, and must-fail edits of them, are respelled throughout, comments too.
 """
 import os
 import re
