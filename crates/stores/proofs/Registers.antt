@@ -1,11 +1,9 @@
 -- Words that lie in pairs of registers: what is read there, and what a write there changes.
 use Rattle.std.proofs.Common.{◌≡◌, ℕ, zero, suc, ◌+◌, ◌*◌, ◌/◌, ◌%◌, ◌<◌, min, List, [], ◌∷◌, ◌++◌, length, get_or, take, drop, set, sym, refl, ap, ◌∙◌, add-one, arith, length-set}
-use lib.Bits.{bit_or}
-use Rattle.std.proofs.lemmas.Nat.{or_shifted, shl_whole, shr_high, mod_low}
+use Rattle.std.proofs.lemmas.Nat.{shr_high, mod_low}
 use Rattle.std.proofs.lemmas.List.{drop-set-lt}
-use Rattle.stores.specs.Registers.{paired, halved, unpaired, Halves}
+use Rattle.stores.specs.Registers.{paired, halved, past_pairs, unpaired}
 use Rattle.stores.specs.Words.{held}
-use Rattle.stores.proofs.Parts.{held_length, held_at, held_set}
 
 pub length_paired : (rs : List ℕ) → length (paired rs) ≡ length rs / 2
 unfolding paired
@@ -13,81 +11,64 @@ length_paired [] = refl
 length_paired (h ∷ []) = refl
 length_paired (h ∷ (l ∷ rest)) = omega (arith, length_paired rest)
 
--- the word of address a has its halves in the registers i and i + 1, where i is 2 * a
-pub paired_at : (rs : List ℕ) (a i : ℕ) → i ≡ 2 * a → suc i < length rs → get_or (paired rs) a 0 ≡ get_or rs i 0 * 65536 + get_or rs (suc i) 0
-unfolding paired
-paired_at [] a i e h = absurd (omega arith)
-paired_at (x ∷ []) a i e h = absurd (omega arith)
-paired_at (x ∷ (y ∷ rest)) zero zero e h = refl
-paired_at (x ∷ (y ∷ rest)) zero (suc i) e h = absurd (omega arith)
-paired_at (x ∷ (y ∷ rest)) (suc a) zero e h = absurd (omega arith)
-paired_at (x ∷ (y ∷ rest)) (suc a) (suc zero) e h = absurd (omega arith)
-paired_at (x ∷ (y ∷ rest)) (suc a) (suc (suc i)) e h = paired_at rest a i (omega arith) (omega arith)
-
-pub paired_set : (rs : List ℕ) (a i high low : ℕ) → i ≡ 2 * a → suc i < length rs → paired (set (set rs i high) (suc i) low) ≡ set (paired rs) a (high * 65536 + low)
-unfolding paired
-paired_set [] a i high low e h = absurd (omega arith)
-paired_set (x ∷ []) a i high low e h = absurd (omega arith)
-paired_set (x ∷ (y ∷ rest)) zero zero high low e h = refl
-paired_set (x ∷ (y ∷ rest)) zero (suc i) high low e h = absurd (omega arith)
-paired_set (x ∷ (y ∷ rest)) (suc a) zero high low e h = absurd (omega arith)
-paired_set (x ∷ (y ∷ rest)) (suc a) (suc zero) high low e h = absurd (omega arith)
-paired_set (x ∷ (y ∷ rest)) (suc a) (suc (suc i)) high low e h = ap (λ t. (x * 65536 + y) ∷ t) (paired_set rest a i high low (omega arith) (omega arith))
-
--- two halves, by shift and or, make the word that they are halves of
-pub joined : (high low : ℕ) → high < 65536 → low < 65536 → bit_or ((high * 65536) % 4294967296) low ≡ high * 65536 + low
-joined high low h l = ap (λ n. bit_or n low) (shl_whole high 16 16 32 h (omega arith)) ∙ or_shifted high 16 low l
-
--- a word put where words lie leaves the other registers as they are
-unpaired_set : (rs : List ℕ) (i v : ℕ) → i < 2 * min 65536 (length rs / 2) → unpaired (set rs i v) ≡ unpaired rs
-unfolding unpaired
-unpaired_set rs i v h = ap (λ n. drop (2 * min 65536 (n / 2)) (set rs i v)) (length-set rs i v) ∙ drop-set-lt (2 * min 65536 (length rs / 2)) rs i v h
-
 -- the word of address a lies in the registers 2 * a and 2 * a + 1
-pub halves : (rs : List ℕ) (a : ℕ) → a < length (held (paired rs)) → Halves rs a (2 * a)
-halves rs a h =
-    let there : 2 * a + 1 < length rs = omega (arith, held_length (paired rs), length_paired rs) in
-    let next : 2 * a + 1 ≡ suc (2 * a) = add-one (2 * a) in
-    let whole : (w : ℕ) → w / 65536 * 65536 + w % 65536 ≡ w = λ w. omega arith in
-    record {
-      there = there;
-      word =
-          held_at (paired rs) a h
-          ∙ paired_at rs a (2 * a) refl (omega arith)
-          ∙ ap (λ j. get_or rs (2 * a) 0 * 65536 + get_or rs j 0) (sym next);
-      inside = λ w.
-          ap (λ j. held (paired (set (set rs (2 * a) (w / 65536)) j (w % 65536)))) next
-          ∙ ap held (paired_set rs a (2 * a) (w / 65536) (w % 65536) refl (omega arith))
-          ∙ held_set (paired rs) a (w / 65536 * 65536 + w % 65536)
-          ∙ ap (set (held (paired rs)) a) (whole w);
-      outside = λ w.
-          unpaired_set (set rs (2 * a) (w / 65536)) (2 * a + 1) (w % 65536) (omega (arith, held_length (paired rs), length_paired rs, length-set rs (2 * a) (w / 65536)))
-          ∙ unpaired_set rs (2 * a) (w / 65536) (omega (arith, held_length (paired rs), length_paired rs));
-    }
+pub pair_inside : (rs : List ℕ) (a : ℕ) → a < length (paired rs) → 2 * a + 1 < length rs
+pair_inside rs a h = omega (arith, length_paired)
+
+pub pair_at : (rs : List ℕ) (a : ℕ) → a < length (paired rs) → get_or rs (2 * a) 0 * 65536 + get_or rs (2 * a + 1) 0 ≡ get_or (paired rs) a 0
+unfolding paired
+pair_at [] a h = absurd (omega arith)
+pair_at (x ∷ []) a h = absurd (omega arith)
+pair_at (x ∷ (y ∷ rest)) zero h = refl
+pair_at (x ∷ (y ∷ rest)) (suc a) h =
+    let two : 2 * suc a ≡ suc (suc (2 * a)) = omega arith in
+    let here = pair_at rest a (omega arith) in
+    rw (add-one, two) (rw add-one at here)
+
+pub pair_set : (rs : List ℕ) (a w high low : ℕ) → a < length (paired rs) → high ≡ w / 65536 → low ≡ w % 65536 → paired (set (set rs (2 * a) high) (2 * a + 1) low) ≡ set (paired rs) a w
+unfolding paired
+pair_set [] a w high low h _ _ = absurd (omega arith)
+pair_set (x ∷ []) a w high low h _ _ = absurd (omega arith)
+pair_set (x ∷ (y ∷ rest)) zero w high low h is_high is_low =
+    let whole : high * 65536 + low ≡ w = omega arith in
+    rw whole
+pair_set (x ∷ (y ∷ rest)) (suc a) w high low h is_high is_low =
+    let two : 2 * suc a ≡ suc (suc (2 * a)) = omega arith in
+    let here = pair_set rest a w high low (omega arith) is_high is_low in
+    rw (add-one, two) (ap (λ t. (x * 65536 + y) ∷ t) (rw add-one at here))
+
+-- a word put where the first n words lie leaves the registers past them as they are
+past_pairs_set : (n : ℕ) (rs : List ℕ) (i v : ℕ) → i < 2 * min n (length rs / 2) → past_pairs n (set rs i v) ≡ past_pairs n rs
+unfolding past_pairs
+past_pairs_set n rs i v h = rw length-set (drop-set-lt (2 * min n (length rs / 2)) rs i v h)
+
+pub pair_past : (rs : List ℕ) (a n high low : ℕ) → a < length (paired rs) → a < n → past_pairs n (set (set rs (2 * a) high) (2 * a + 1) low) ≡ past_pairs n rs
+pair_past rs a n high low h before =
+    past_pairs_set n (set rs (2 * a) high) (2 * a + 1) low (omega (arith, length_paired, length-set {A = ℕ}))
+    ∙ past_pairs_set n rs (2 * a) high (omega (arith, length_paired))
 
 -- registers are the halves of the first n words in them and what is left
 halves_whole : (n : ℕ) (rs : List ℕ) → ((i : ℕ) → get_or rs i 0 < 65536) → halved (take n (paired rs)) ++ drop (2 * min n (length rs / 2)) rs ≡ rs
 unfolding paired halved
 halves_whole zero rs small =
     let none : 2 * min 0 (length rs / 2) ≡ 0 = omega arith in
-    ap (λ k. drop k rs) none
+    rw none
 halves_whole (suc n) [] small =
     let none : 2 * min (suc n) 0 ≡ 0 = omega arith in
-    ap (λ k. drop {A = ℕ} k []) none
+    rw none
 halves_whole (suc n) (h ∷ []) small =
     let none : 2 * min (suc n) 0 ≡ 0 = omega arith in
-    ap (λ k. drop {A = ℕ} k (h ∷ [])) none
+    rw none
 halves_whole (suc n) (h ∷ (l ∷ rest)) small =
     let two : 2 * min (suc n) (suc (suc (length rest)) / 2) ≡ suc (suc (2 * min n (length rest / 2))) = omega arith in
     let high : (h * 65536 + l) / 65536 ≡ h = shr_high h 16 l (small 1) in
     let low : (h * 65536 + l) % 65536 ≡ l = mod_low h 16 l (small 1) in
-    let after : halved (take n (paired rest)) ++ drop (2 * min n (length rest / 2)) rest ≡ rest = halves_whole n rest (λ i. small (suc (suc i))) in
-    ap (λ k. ((h * 65536 + l) / 65536) ∷ (((h * 65536 + l) % 65536) ∷ (halved (take n (paired rest)) ++ drop k (h ∷ (l ∷ rest))))) two
-    ∙ ap (λ t. ((h * 65536 + l) / 65536) ∷ (((h * 65536 + l) % 65536) ∷ t)) after
-    ∙ ap (λ x. x ∷ (((h * 65536 + l) % 65536) ∷ rest)) high
-    ∙ ap (λ y. h ∷ (y ∷ rest)) low
+    rw (two, high, low) (ap (λ t. h ∷ (l ∷ t)) (halves_whole n rest (λ i. small (suc (suc i)))))
 
 -- registers are the halves of the words that are held of them, and what holds no word
 pub registers_whole : (rs : List ℕ) → ((i : ℕ) → get_or rs i 0 < 65536) → halved (held (paired rs)) ++ unpaired rs ≡ rs
-unfolding held unpaired
+unfolding held past_pairs
 registers_whole rs small = halves_whole 65536 rs small
+
+-- for the proofs of registers
+pub ruleset in_registers = (length_paired, length-set, pair_inside, pair_at, pair_set, pair_past)

@@ -1,6 +1,7 @@
 // Word stores: memory that is read and written one word of 32 bits at a time.
 #![tactic(auto)]
 
+mod cell;
 pub mod lent;
 pub mod plain;
 pub mod register;

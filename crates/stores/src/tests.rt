@@ -8,8 +8,10 @@ use crate::register::RegisterStore;
 use crate::window::Window;
 use crate::word_store::WordStore;
 use common::refusal::Refusal;
+use std::process::Abort;
 
 // The lender of cells knows all of them after a write through a store that is gone.
+#[tactic(auto, using(crate::proofs::Parts::held_whole))]
 fn put_cell(cells: &mut [u32], address: u32, word: u32) -> Result<(), Refusal>
     ensures { cells.new ≡ slice_set (held cells.old) address word ++ past 65536 cells.old }
 {
@@ -18,6 +20,7 @@ fn put_cell(cells: &mut [u32], address: u32, word: u32) -> Result<(), Refusal>
 }
 
 // So does the lender of registers.
+#[tactic(auto, using(crate::proofs::Registers::registers_whole))]
 fn put_pair(registers: &mut [u16], address: u32, word: u32) -> Result<(), Refusal>
     ensures { registers.new ≡ halved (slice_set (held (paired registers.old)) address word) ++ unpaired registers.old }
 {
@@ -26,11 +29,22 @@ fn put_pair(registers: &mut [u16], address: u32, word: u32) -> Result<(), Refusa
 }
 
 // So does the lender of cells to a window.
+#[tactic(auto, using(crate::proofs::Parts::held_whole, crate::proofs::Parts::part_whole))]
 fn put_within(cells: &mut [u32], address: u32, word: u32) -> Result<(), Refusal>
     ensures { cells.new ≡ (before 2 (held cells.old) ++ (slice_set (part 2 4 (held cells.old)) address word ++ past 6 (held cells.old))) ++ past 65536 cells.old }
 {
     let mut window = Window::new(cells, 2, 4);
     window.write(address, word)
+}
+
+// A store holds these words and no more.
+fn expect_words<S: WordStore>(rt: &impl Abort, store: &S, words: &[u32]) {
+    assert_eq!(rt; store.size() as usize, words.len());
+    for (address, word) in (0..store.size()).zip(words) {
+        assert_eq!(rt; store.read(address), Ok(*word));
+    }
+    assert_eq!(rt; store.read(store.size()), Err(Refusal::NoSuchPlace));
+    assert_eq!(rt; store.check(store.size()), Err(Refusal::NoSuchPlace));
 }
 
 #[test]
@@ -42,10 +56,8 @@ fn cells_are_words(rt: HostRuntime) {
         put_cell(&mut cells, u32::MAX, 7),
         Err(Refusal::NoSuchPlace)
     );
-    let store = PlainStore::new(&mut cells);
-    assert_eq!(rt; store.size(), 3);
-    assert_eq!(rt; store.read(1), Ok(u32::MAX));
-    assert_eq!(rt; store.read(3), Err(Refusal::NoSuchPlace));
+    expect_words(&rt, &PlainStore::new(&mut cells), &[1, u32::MAX, 3]);
+    expect_words(&rt, &cells.as_mut_slice(), &[1, u32::MAX, 3]);
     assert_eq!(rt; cells, [1, u32::MAX, 3]);
 }
 
@@ -59,11 +71,8 @@ fn registers_are_halves(rt: HostRuntime) {
     );
     assert_eq!(rt; registers, [0, 0, 1, 2, 9]);
     assert_eq!(rt; put_pair(&mut registers, 0, u32::MAX), Ok(()));
-    let store = RegisterStore::new(&mut registers);
-    assert_eq!(rt; store.size(), 2);
-    assert_eq!(rt; store.read(0), Ok(u32::MAX));
-    assert_eq!(rt; store.read(1), Ok(65538));
-    assert_eq!(rt; store.read(2), Err(Refusal::NoSuchPlace));
+    expect_words(&rt, &RegisterStore::new(&mut registers), &[u32::MAX, 65538]);
+    expect_words(&rt, &registers.as_mut_slice(), &[u32::MAX, 65538]);
 }
 
 #[test]

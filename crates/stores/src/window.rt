@@ -1,6 +1,6 @@
-ghost use Rattle.std.specs.Prelude.{◌≡◌, ◌+◌, ◌<◌, min, length};
+ghost use Rattle.std.specs.Prelude.{◌≡◌, ◌+◌, min, length};
 ghost use Rattle.stores.specs.Homes.{within};
-ghost use Rattle.stores.specs.Parts.{part, before, past, part_small, Placed};
+ghost use Rattle.stores.specs.Parts.{part, before, past, part_small};
 
 use crate::word_store::WordStore;
 use common::refusal::Refusal;
@@ -13,6 +13,7 @@ pub struct Window<S> {
     length: u32,
 }
 
+#[tactic(auto, using(crate::proofs::Parts::in_windows))]
 impl<S: WordStore> Window<S> {
     // The part of the store below that begins at `base` and has at most `length` words.
     pub fn new(below: S, base: u32, length: u32) -> Self
@@ -43,16 +44,9 @@ impl<S: WordStore> Window<S> {
     {
         self.below.size().saturating_sub(self.base)
     }
-
-    // The address below of an address of the window.
-    fn place(&self, address: u32) -> u32
-        requires { address < length (part self.now.base self.now.length (S.WordStore.words self.now.below)) }
-        ensures { Placed self.now.base self.now.length (S.WordStore.words self.now.below) address result }
-    {
-        self.base + address
-    }
 }
 
+#[tactic(auto, using(crate::proofs::Parts::in_windows))]
 impl<S: WordStore> WordStore for Window<S> {
     ghost words = { λ s. part s.base s.length (S.WordStore.words s.below) };
 
@@ -65,19 +59,12 @@ impl<S: WordStore> WordStore for Window<S> {
     }
 
     fn read(&self, address: u32) -> Result<u32, Refusal> {
-        if address < self.size() {
-            self.below.read(self.place(address))
-        } else {
-            Err(Refusal::NoSuchPlace)
-        }
+        self.check(address)?;
+        self.below.read(self.base + address)
     }
 
     fn write(&mut self, address: u32, word: u32) -> Result<(), Refusal> {
-        if address < (*self).size() {
-            let place = self.place(address);
-            self.below.write(place, word)
-        } else {
-            Err(Refusal::NoSuchPlace)
-        }
+        (*self).check(address)?;
+        self.below.write(self.base + address, word)
     }
 }

@@ -12,15 +12,23 @@ pub trait WordStore {
     // The words, in the order of their addresses.
     ghost words: { Self → List ℕ };
 
-    // There are at most 65,536.
-    ghost small: { (s : Self) → length (words s) ≤ 65536 };
-
     // The memory that the words lie in, and what of it is no word of the store.
     ghost home: { Self → Home };
 
     // How many words there are.
     fn size(&self) -> u32
         ensures { result ≡ length (words self.now) };
+
+    // Refuses an address that is not below the size.
+    fn check(&self, address: u32) -> Result<(), Refusal>
+        ensures { result ≡ written_at (words self.now) address }
+    {
+        if address < self.size() {
+            Ok(())
+        } else {
+            Err(Refusal::NoSuchPlace)
+        }
+    }
 
     // The word at an address below the size; any other address is refused.
     fn read(&self, address: u32) -> Result<u32, Refusal>
@@ -31,4 +39,7 @@ pub trait WordStore {
         ensures answer { result ≡ written_at (words self.old) address }
         ensures after { words self.new ≡ slice_set (words self.old) address word }
         ensures lender { home self.new ≡ home self.old };
+
+    // There are at most 65,536 words.
+    ghost small: { (s : Self) → length (words s) ≤ 65536 };
 }

@@ -23,7 +23,7 @@ returns-in-Plain c =
 pub returns-in-Registers : goal.returns-in-Registers
 returns-in-Registers c =
     let words = c.args.engine.words in
-    let lent : c.new-store-in-Registers.result.registers.now ≡ take (2 * words - 0) (drop 0 (replicate 512 0)) = ap (λ x. x.now) c.new-store-in-Registers.ensures in
+    let lent : c.new-store-in-Registers.result.cells.now ≡ take (2 * words - 0) (drop 0 (replicate 512 0)) = ap (λ x. x.now) c.new-store-in-Registers.ensures in
     let zeros = ap (λ l. held (paired l)) lent ∙ registers_of_zeros words c.requires in
     let text = λ (ws : List ℕ). policy_text c.args.engine.policy (new_world c.args.set_up ws) (lines c.args.script.now) in
     record {

@@ -1,6 +1,0 @@
-use Rattle.std.proofs.Common.{rules}
-use Rattle.std.proofs.lemmas.List.{set_past}
-use Rattle.stores.proofs.plain.RefMutSliceU32WordStore.write.Goals as goal
-
-pub returns-else-address-size : goal.returns-else-address-size
-returns-else-address-size c = search (rules, set_past)
