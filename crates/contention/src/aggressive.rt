@@ -1,6 +1,6 @@
 ghost use Rattle.contention.specs.Policies.{no_points, each_beats_other, unmoved};
 
-use crate::policy::{Points, Policy};
+use crate::policy::Policy;
 use common::thread_id::ThreadId;
 
 // Each thread beats each other: who finds a stripe held takes it.
@@ -12,14 +12,16 @@ impl Policy for Aggressive {
 
     const TAKE_POINTS: u32 = 0;
 
+    ghost LOAD_POINTS = { no_points.load };
+
+    ghost TAKE_POINTS = { no_points.take };
+
     ghost table = { λ _. each_beats_other };
 
     ghost moved = { unmoved };
 
-    ghost points = { no_points };
-
     fn beats(&self, first: ThreadId, second: ThreadId) -> bool {
-        first.number() != second.number()
+        first != second
     }
 
     fn loaded(&mut self, _thread: ThreadId) {}
@@ -29,11 +31,4 @@ impl Policy for Aggressive {
     fn won(&mut self, _winner: ThreadId, _loser: ThreadId) {}
 
     fn sealed(&mut self, _thread: ThreadId) {}
-
-    fn points() -> Points {
-        Points {
-            load: Self::LOAD_POINTS,
-            take: Self::TAKE_POINTS,
-        }
-    }
 }

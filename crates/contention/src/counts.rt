@@ -2,6 +2,7 @@ ghost use Rattle.std.specs.Prelude.{◌≡◌};
 ghost use Rattle.contention.specs.Ranks.{no_counts, count_of, grown, cleared, outranks};
 
 use common::thread_id::ThreadId;
+use std::cmp::Reverse;
 
 // A count for each thread. A count stops at `u32::MAX`.
 #[derive(Clone, Copy)]
@@ -44,8 +45,6 @@ impl Counts {
     pub(crate) fn outranks(&self, first: ThreadId, second: ThreadId) -> bool
         ensures { result ≡ outranks self.now.cells first.number second.number }
     {
-        let mine = self.of(first);
-        let theirs = self.of(second);
-        theirs < mine || mine == theirs && first.number() < second.number()
+        (Reverse(self.of(first)), first) < (Reverse(self.of(second)), second)
     }
 }

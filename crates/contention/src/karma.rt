@@ -2,10 +2,11 @@ ghost use Rattle.std.specs.Prelude.{◌≡◌};
 ghost use Rattle.contention.specs.Policies.{karma_points, new_karma, karma_table, karma_moved};
 
 use crate::counts::Counts;
-use crate::policy::{Points, Policy};
+use crate::policy::Policy;
 use common::thread_id::ThreadId;
 
 // The thread that did more work since its last seal beats: a count survives a loss.
+// Beside KillPrio and not one generic type with it: `Counts` has what both share, and each event but the seal moves them differently.
 #[derive(Clone, Copy)]
 pub struct Karma {
     counts: Counts,
@@ -27,11 +28,13 @@ impl Policy for Karma {
 
     const TAKE_POINTS: u32 = 10;
 
+    ghost LOAD_POINTS = { karma_points.load };
+
+    ghost TAKE_POINTS = { karma_points.take };
+
     ghost table = { karma_table };
 
     ghost moved = { karma_moved };
-
-    ghost points = { karma_points };
 
     fn beats(&self, first: ThreadId, second: ThreadId) -> bool {
         self.counts.outranks(first, second)
@@ -49,12 +52,5 @@ impl Policy for Karma {
 
     fn sealed(&mut self, thread: ThreadId) {
         self.counts.clear(thread);
-    }
-
-    fn points() -> Points {
-        Points {
-            load: Self::LOAD_POINTS,
-            take: Self::TAKE_POINTS,
-        }
     }
 }

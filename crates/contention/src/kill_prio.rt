@@ -2,7 +2,7 @@ ghost use Rattle.std.specs.Prelude.{◌≡◌};
 ghost use Rattle.contention.specs.Policies.{no_points, new_kill_prio, kill_prio_table, kill_prio_moved};
 
 use crate::counts::Counts;
-use crate::policy::{Points, Policy};
+use crate::policy::Policy;
 use common::thread_id::ThreadId;
 
 // The thread that won over more since its last seal beats: a winner takes over what the loser had won.
@@ -27,11 +27,13 @@ impl Policy for KillPrio {
 
     const TAKE_POINTS: u32 = 0;
 
+    ghost LOAD_POINTS = { no_points.load };
+
+    ghost TAKE_POINTS = { no_points.take };
+
     ghost table = { kill_prio_table };
 
     ghost moved = { kill_prio_moved };
-
-    ghost points = { no_points };
 
     fn beats(&self, first: ThreadId, second: ThreadId) -> bool {
         self.counts.outranks(first, second)
@@ -48,12 +50,5 @@ impl Policy for KillPrio {
 
     fn sealed(&mut self, thread: ThreadId) {
         self.counts.clear(thread);
-    }
-
-    fn points() -> Points {
-        Points {
-            load: Self::LOAD_POINTS,
-            take: Self::TAKE_POINTS,
-        }
     }
 }

@@ -12,7 +12,8 @@ pub struct Points {
 }
 
 // A table that says of each two different threads whether the first beats the second now,
-// and the rule by which what the policy is told moves it.
+// the rule by which what the policy is told moves it,
+// and its points.
 pub trait Policy {
     // The points for a loaded word.
     const LOAD_POINTS: u32;
@@ -20,14 +21,16 @@ pub trait Policy {
     // The points for a taken stripe.
     const TAKE_POINTS: u32;
 
+    // The two constants as clauses name them: the check proves them equal.
+    ghost LOAD_POINTS: { ℕ };
+
+    ghost TAKE_POINTS: { ℕ };
+
     // Whether the first thread beats the second now, by their numbers.
     ghost table: { Self → ℕ → ℕ → Bool };
 
     // The policy after an event, by its own rule.
     ghost moved: { Self → Event → Self };
-
-    // The two constants.
-    ghost points: { Points };
 
     // Whether the first thread beats the second now. Asking changes nothing.
     fn beats(&self, first: ThreadId, second: ThreadId) -> bool
@@ -51,5 +54,11 @@ pub trait Policy {
 
     // The points for a loaded word and for a taken stripe.
     fn points() -> Points
-        ensures { result ≡ points };
+        ensures { result ≡ record { load = LOAD_POINTS; take = TAKE_POINTS } }
+    {
+        Points {
+            load: Self::LOAD_POINTS,
+            take: Self::TAKE_POINTS,
+        }
+    }
 }

@@ -93,9 +93,9 @@ fn run_engine<S: WordStore + Drop, P: Policy + Drop>(
     output: &mut [u8],
     at: usize,
 ) -> usize
-    ensures after { output.new ≡ laid at (engine_text P.points P.table P.moved policy (new_world set_up (S.words store)) (lines script.now)) output.old }
-    ensures end { result ≡ end_of at (engine_text P.points P.table P.moved policy (new_world set_up (S.words store)) (lines script.now)) (length output.old) }
-    ensures brief { BriefLines 1 script.now (engine_text P.points P.table P.moved policy (new_world set_up (S.words store)) (lines script.now)) }
+    ensures after { output.new ≡ laid at (engine_text (record { load = P.LOAD_POINTS; take = P.TAKE_POINTS }) P.table P.moved policy (new_world set_up (S.words store)) (lines script.now)) output.old }
+    ensures end { result ≡ end_of at (engine_text (record { load = P.LOAD_POINTS; take = P.TAKE_POINTS }) P.table P.moved policy (new_world set_up (S.words store)) (lines script.now)) (length output.old) }
+    ensures brief { BriefLines 1 script.now (engine_text (record { load = P.LOAD_POINTS; take = P.TAKE_POINTS }) P.table P.moved policy (new_world set_up (S.words store)) (lines script.now)) }
 {
     let behind = Reply::Points(P::points()).print(output, at);
     let mut memory = Memory::new(set_up, store, policy);

@@ -22,7 +22,7 @@ returns g c =
     ∙ ap (λ p. lines_text table moved p (new_world c.args.set_up (words c.args.store)) script) c.new-memory.ensures.policy in
     let first = printed c.args.at points c.args.output.now c.print-behind.new.output c.print-behind.result c.print-behind.ensures.after c.print-behind.ensures.end in
     let second = printed c.print-behind.result text c.print-behind.new.output c.answer_lines.new.output c.answer_lines.result c.answer_lines.ensures.after c.answer_lines.ensures.end in
-    let same-all : points ++ text ≡ engine_text g.P.Policy.points table moved c.args.policy (new_world c.args.set_up (words c.args.store)) script =
+    let same-all : points ++ text ≡ engine_text (record { load = g.P.Policy.LOAD_POINTS; take = g.P.Policy.TAKE_POINTS }) table moved c.args.policy (new_world c.args.set_up (words c.args.store)) script =
     ap (λ t. points ++ t) same_text
     ∙ ap (λ p. engine_text p table moved c.args.policy (new_world c.args.set_up (words c.args.store)) script) c.points.ensures in
     let all = printed_as same-all (printed_more first second) in
