@@ -12,7 +12,7 @@ use Rattle.std.proofs.lemmas.List.{get_or-map, map-set, length-map}
 use Rattle.std.proofs.lemmas.Bool.{eq-eqb, ne_eqb, cases_eq}
 
 -- reading a listed table
-at_listed : {A : Type 0} (d : A) (xs : List A) (n : ℕ) → at (listed d xs) n ≡ get_or xs n d
+pub at_listed : {A : Type 0} (d : A) (xs : List A) (n : ℕ) → at (listed d xs) n ≡ get_or xs n d
 unfolding at listed
 at_listed d xs n = refl
 

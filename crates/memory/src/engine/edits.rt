@@ -37,16 +37,16 @@ impl Engine {
     pub(crate) fn start(&mut self, thread: ThreadId)
         ensures { engine_view self.new ≡ with_thread (engine_view self.old) thread.number (fresh self.old.clock) }
     {
-        self.threads.start(thread, self.clock);
+        let end = self.clock;
+        self.threads.edit(thread, |cell| cell.start(end));
     }
 
     // Loses the thread's transaction, and hands on why.
     pub(crate) fn lose(&mut self, thread: ThreadId, loss: Loss) -> Loss
         ensures why { result ≡ loss }
         ensures after { engine_view self.new ≡ lose (engine_view self.old) thread.number loss }
-        ensures stripes_kept { self.new.stripes ≡ self.old.stripes }
     {
-        self.threads.enter(thread, Phase::Lost(loss));
+        self.enter(thread, Phase::Lost(loss));
         loss
     }
 
@@ -61,10 +61,10 @@ impl Engine {
 
     // Moves the thread's snapshot end to the clock.
     pub(crate) fn extend(&mut self, thread: ThreadId)
-        ensures after { engine_view self.new ≡ with_thread (engine_view self.old) thread.number (with_snapshot (thread_of (engine_view self.old) thread.number) self.old.clock) }
-        ensures stripes_kept { self.new.stripes ≡ self.old.stripes }
+        ensures { engine_view self.new ≡ with_thread (engine_view self.old) thread.number (with_snapshot (thread_of (engine_view self.old) thread.number) self.old.clock) }
     {
-        self.threads.extend(thread, self.clock);
+        let end = self.clock;
+        self.threads.edit(thread, |cell| cell.snapshot = end);
     }
 
     // Notes that the thread read a stripe at this version, unless it is known.
@@ -78,8 +78,7 @@ impl Engine {
         ensures { engine_view self.new ≡ note_at (engine_view self.old) thread.number stripe.number version known }
     {
         if !known {
-            self.threads
-                .note_read(thread, ReadEntry { stripe, version });
+            self.threads.edit(thread, |cell| cell.note_read(ReadEntry { stripe, version }));
         }
     }
 
@@ -87,15 +86,15 @@ impl Engine {
     pub(crate) fn note_write(&mut self, thread: ThreadId, address: u32, word: u32)
         ensures { engine_view self.new ≡ note_write (engine_view self.old) thread.number address word }
     {
-        self.threads
-            .note_write(thread, WriteEntry { address, word });
+        self.threads.edit(thread, |cell| cell.note_write(WriteEntry { address, word }));
     }
 
     // Replaces the word that the thread is to write at a logged address.
     pub(crate) fn rewrite(&mut self, thread: ThreadId, address: u32, word: u32)
         ensures { engine_view self.new ≡ rewrite (engine_view self.old) thread.number address word }
     {
-        self.threads.rewrite(thread, WriteEntry { address, word });
+        self.threads
+            .edit(thread, |cell| cell.rewrite(WriteEntry { address, word }));
     }
 
     // Makes the thread the owner of a stripe of this version.
@@ -114,8 +113,7 @@ impl Engine {
     {
         let ticket = self.clock + 1;
         self.clock = ticket;
-        self.threads
-            .enter(thread, Phase::Sealed { ticket, drained: 0 });
+        self.enter(thread, Phase::Sealed { ticket, drained: 0 });
         ticket
     }
 
@@ -123,7 +121,7 @@ impl Engine {
     pub(crate) fn enter(&mut self, thread: ThreadId, phase: Phase)
         ensures { engine_view self.new ≡ enter (engine_view self.old) thread.number phase }
     {
-        self.threads.enter(thread, phase);
+        self.threads.edit(thread, |cell| cell.phase = phase);
     }
 
     // Releases the thread's stripes, at a new version if there is one, and makes it idle.
@@ -131,7 +129,7 @@ impl Engine {
         ensures { engine_view self.new ≡ release (engine_view self.old) thread.number version }
     {
         self.stripes.release(thread, version);
-        self.threads.enter(thread, Phase::Idle);
+        self.enter(thread, Phase::Idle);
     }
 
     // Where no words are left, releases the thread's stripes at its ticket; else keeps how many were drained.

@@ -14,37 +14,26 @@ impl Stripe {
     pub(crate) fn owner_number(self) -> u32
         ensures { result ≡ owner_number self.owner }
     {
-        match self.owner {
-            Some(owner) => owner.number(),
-            None => 0,
-        }
+        self.owner.map_or(0, ThreadId::number)
     }
 
     // Whether this thread owns it.
     pub(crate) fn is_owned_by(self, thread: ThreadId) -> bool
         ensures { result ≡ (owner_number self.owner == thread.number) }
     {
-        match self.owner {
-            Some(owner) => owner.number() == thread.number(),
-            None => false,
-        }
+        self.owner == Some(thread)
     }
 
     // Has no owner any more if this thread owns it; then a new version counts too.
     fn release(&mut self, thread: ThreadId, version: Option<u32>)
         ensures { stripe_view self.new ≡ freed thread.number version (stripe_view self.old) }
     {
-        match self.owner {
-            Some(owner) if owner.number() == thread.number() => {
-                self.version = version.unwrap_or(self.version);
-                self.owner = None;
-            }
-            _ => {}
+        if self.is_owned_by(thread) {
+            self.version = version.unwrap_or(self.version);
+            self.owner = None;
         }
     }
-}
 
-impl Stripe {
     // Has version 0, and the owner that it had.
     fn roll(&mut self)
         ensures { stripe_view self.new ≡ rolled_stripe (stripe_view self.old) }
@@ -86,8 +75,7 @@ impl Stripes {
     pub(crate) fn release(&mut self, thread: ThreadId, version: Option<u32>)
         ensures { stripe_table self.new.all ≡ each (freed thread.number version) (stripe_table self.old.all) }
     {
-        let all = &mut self.all;
-        for stripe in all.iter_mut() {
+        for stripe in &mut self.all {
             stripe.release(thread, version);
         }
     }
@@ -96,8 +84,7 @@ impl Stripes {
     pub(crate) fn roll(&mut self)
         ensures { stripe_table self.new.all ≡ each rolled_stripe (stripe_table self.old.all) }
     {
-        let all = &mut self.all;
-        for stripe in all.iter_mut() {
+        for stripe in &mut self.all {
             stripe.roll();
         }
     }

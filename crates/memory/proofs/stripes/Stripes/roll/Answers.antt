@@ -5,11 +5,11 @@ use Rattle.rules.specs.Roll.{rolled_stripe}
 
 pub loop-stripe-preserved : goal.loop-stripe-preserved
 loop-stripe-preserved c =
-    swept_more (rolled_stripe) c.args.self.now.all c.loop-stripe.all c.loop-stripe.stripe-index
+    swept_more (rolled_stripe) c.args.self.now.all c.loop-stripe.stripe-items c.loop-stripe.stripe-index
     c.args.self.now.count c.stripe-item.result c.roll.new.self (omega arith) c.roll.ensures
     c.loop-stripe.invariant
 
 pub returns : goal.returns
 returns c =
-    swept_all (rolled_stripe) c.args.self.now.all c.loop-stripe.all c.loop-stripe.stripe-index
+    swept_all (rolled_stripe) c.args.self.now.all c.loop-stripe.stripe-items c.loop-stripe.stripe-index
     c.args.self.now.count (omega arith) refl c.loop-stripe.invariant
