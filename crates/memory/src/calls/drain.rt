@@ -15,7 +15,7 @@ impl<S: WordStore, P: Policy> Memory<S, P> {
         ensures { Did S.words S.home P.moved self.old self.new (drain_answer result) (drain (world S.words self.old) thread) }
     {
         let id = self.engine.admit(Kind::Drain, thread)?;
-        let cell = self.engine.threads.get(id);
+        let cell = &self.engine.threads[id];
         let Phase::Sealed { ticket, drained } = cell.phase else {
             return Err(Refusal::WrongState);
         };

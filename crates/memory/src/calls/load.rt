@@ -21,7 +21,7 @@ impl<S: WordStore, P: Policy> Memory<S, P> {
         if address >= self.words.size() {
             return Err(Stop::Refused(Refusal::NoSuchPlace));
         }
-        if let Some(entry) = self.engine.written(id, address) {
+        if let Some(entry) = self.engine.threads[id].writes.find(address) {
             self.policy.loaded(id);
             return Ok(entry.word);
         }
@@ -34,8 +34,8 @@ impl<S: WordStore, P: Policy> Memory<S, P> {
         ensures { Did S.words S.home P.moved self.old self.new (load_answer result) (load_logged (P.table self.old.policy) (world S.words self.old) thread.number address None) }
     {
         let at = self.engine.set_up.stripe_of(address);
-        let known = self.engine.has_read(thread, at);
-        if !known && self.engine.reads_full(thread) {
+        let known = self.engine.threads[thread].has_read(at);
+        if !known && self.engine.threads[thread].reads_full() {
             return Err(Stop::Refused(Refusal::LogFull));
         }
         self.load_free(thread, address, at, known)
@@ -52,7 +52,7 @@ impl<S: WordStore, P: Policy> Memory<S, P> {
         requires { address < length (S.words self.old.words) }
         ensures { Did S.words S.home P.moved self.old self.new (load_answer result) (load_roomy (P.table self.old.policy) (world S.words self.old) thread.number address at.number known false) }
     {
-        let stripe = self.engine.stripes.get(at);
+        let stripe = self.engine.stripes[at];
         if self.engine.is_busy(thread, stripe.owner) {
             return Err(Stop::Refused(Refusal::StripeBusy));
         }

@@ -20,7 +20,7 @@ impl<S: WordStore, P: Policy> Memory<S, P> {
         if address >= self.words.size() {
             return Err(Stop::Refused(Refusal::NoSuchPlace));
         }
-        if self.engine.written(id, address).is_some() {
+        if self.engine.threads[id].writes.find(address).is_some() {
             self.engine.rewrite(id, address, word);
             return Ok(());
         }
@@ -31,11 +31,11 @@ impl<S: WordStore, P: Policy> Memory<S, P> {
     fn store_stripe(&mut self, thread: ThreadId, address: u32, word: u32) -> Result<(), Stop>
         ensures { Did S.words S.home P.moved self.old self.new (store_answer result) (store_logged (P.table self.old.policy) (world S.words self.old) thread.number address word false) }
     {
-        if self.engine.writes_full(thread) {
+        if self.engine.threads[thread].writes.is_full() {
             return Err(Stop::Refused(Refusal::LogFull));
         }
         let at = self.engine.set_up.stripe_of(address);
-        let stripe = self.engine.stripes.get(at);
+        let stripe = self.engine.stripes[at];
         if self.engine.is_busy(thread, stripe.owner) {
             return Err(Stop::Refused(Refusal::StripeBusy));
         }

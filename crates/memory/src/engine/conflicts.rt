@@ -19,7 +19,7 @@ impl Engine {
         ensures { result ≡ busy_by (engine_view self.now) thread.number (owner_number owner) }
     {
         owner.is_some_and(|other| {
-            other != thread && matches!(self.threads.get(other).phase, Phase::Sealed { .. })
+            other != thread && matches!(self.threads[other].phase, Phase::Sealed { .. })
         })
     }
 
@@ -28,7 +28,7 @@ impl Engine {
         ensures { numbered result ≡ rival_of (engine_view self.now) thread.number (owner_number owner) }
     {
         owner.filter(|other| {
-            *other != thread && self.threads.get(*other).phase == Phase::Running
+            *other != thread && self.threads[*other].phase == Phase::Running
         })
     }
 
@@ -36,7 +36,7 @@ impl Engine {
     fn is_valid(&self, thread: ThreadId, entry: ReadEntry) -> bool
         ensures { result ≡ is_valid (engine_view self.now) thread.number (read_mark entry) }
     {
-        let stripe = self.stripes.get(entry.stripe);
+        let stripe = self.stripes[entry.stripe];
         stripe.version == entry.version && !self.is_busy(thread, stripe.owner)
     }
 
@@ -54,7 +54,7 @@ impl Engine {
     pub(crate) fn recheck(&mut self, thread: ThreadId) -> Result<(), Loss>
         ensures { Stepped (recheck (engine_view self.old) thread.number) result (engine_view self.new) }
     {
-        let entries = self.threads.get(thread).reads.entries();
+        let entries = self.threads[thread].reads.entries();
         if let Some(stripe) = self.first_invalid(thread, entries) {
             return Err(self.lose(
                 thread,
@@ -71,7 +71,7 @@ impl Engine {
     pub(crate) fn check_reads(&mut self, thread: ThreadId) -> Result<(), Loss>
         ensures { Stepped (seal_check (engine_view self.old) thread.number (self.old.clock == (thread_of (engine_view self.old) thread.number).snapshot)) result (engine_view self.new) }
     {
-        if self.clock == self.threads.get(thread).snapshot {
+        if self.clock == self.threads[thread].snapshot {
             Ok(())
         } else {
             self.recheck(thread)
@@ -82,7 +82,7 @@ impl Engine {
     pub(crate) fn refresh(&mut self, thread: ThreadId, version: u32) -> Result<(), Loss>
         ensures { Stepped (refresh_to (engine_view self.old) thread.number version) result (engine_view self.new) }
     {
-        if self.threads.get(thread).snapshot < version {
+        if self.threads[thread].snapshot < version {
             self.recheck(thread)
         } else {
             Ok(())

@@ -8,6 +8,7 @@ ghost use Rattle.rules.specs.NewEngine.{new_stripe};
 use super::{Stripe, Stripes};
 use common::thread_id::ThreadId;
 use layout::stripe_id::StripeId;
+use std::ops::Index;
 
 impl Stripe {
     // The number of its owner, 0 for none.
@@ -42,6 +43,17 @@ impl Stripe {
     }
 }
 
+// The stripe of a number.
+impl Index<StripeId> for Stripes {
+    type Output = Stripe;
+
+    ghost index_gives = { λ stripes id stripe. stripe_view stripe ≡ at (stripe_table stripes.all) id.number };
+
+    fn index(&self, id: StripeId) -> &Stripe {
+        &self.all[id.index()]
+    }
+}
+
 impl Stripes {
     // All stripes at version 0, without owners.
     pub(crate) fn new() -> Stripes
@@ -53,15 +65,6 @@ impl Stripes {
                 owner: None,
             }; 64],
         }
-    }
-
-    // The stripe of this number.
-    pub(crate) fn get(&self, stripe: StripeId) -> Stripe
-        ensures view { stripe_view result ≡ at (stripe_table self.now.all) stripe.number }
-        ensures version { result.version ≡ (at (stripe_table self.now.all) stripe.number).version }
-        ensures owner { owner_number result.owner ≡ (at (stripe_table self.now.all) stripe.number).owner }
-    {
-        self.all[stripe.index()]
     }
 
     // Puts a stripe in the place of the one of this number.

@@ -8,6 +8,18 @@ ghost use Rattle.rules.specs.NewEngine.{new_thread};
 use super::{Thread, Threads};
 use common::thread_id::ThreadId;
 use layout::stripe_id::StripeId;
+use std::ops::Index;
+
+// The thread of a number.
+impl Index<ThreadId> for Threads {
+    type Output = Thread;
+
+    ghost index_gives = { λ threads id thread. thread_view thread ≡ at (thread_table threads.all) id.number };
+
+    fn index(&self, id: ThreadId) -> &Thread {
+        &self.all[id.index()]
+    }
+}
 
 impl Threads {
     // All threads idle, with empty logs; the stripe fills places of the read logs that are not used yet.
@@ -17,13 +29,6 @@ impl Threads {
         Threads {
             all: [Thread::new(stripe); 8],
         }
-    }
-
-    // The thread of this number.
-    pub(crate) fn get(&self, thread: ThreadId) -> &Thread
-        ensures { thread_view result.now ≡ at (thread_table self.now.all) thread.number }
-    {
-        &self.all[thread.index()]
     }
 
     // The threads up to the one of this number.

@@ -17,6 +17,6 @@ returns g c =
     let still : stripe_table c.contend.new.self.engine.stripes.all ≡ stripe_table c.refresh.new.self.stripes.all =
     contend_keeps (g.P.Policy.table c.args.self.now.policy) (engine_view c.refresh.new.self)
     (engine_view c.contend.new.self.engine) c.args.thread.number
-    (rival_of (engine_view c.refresh.new.self) c.args.thread.number (owner_number c.get-stripe.result.owner)) _
+    (rival_of (engine_view c.refresh.new.self) c.args.thread.number (owner_number c.index-stripe.result.now.owner)) _
     c.in_ok-contend.ensures.step in
     search rules
