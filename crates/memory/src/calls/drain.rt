@@ -25,7 +25,12 @@ impl<S: WordStore, P: Policy> Memory<S, P> {
         };
         let left = cell.writes.len() - (drained + 1);
         let _ = self.words.write(entry.address, entry.word);
-        self.engine.settle(id, ticket, drained + 1, left);
+        if left == 0 {
+            self.engine.release(id, Some(ticket));
+        } else {
+            let drained = drained + 1;
+            self.engine.enter(id, Phase::Sealed { ticket, drained });
+        }
         Ok(left)
     }
 }

@@ -1,13 +1,12 @@
-ghost use Rattle.std.specs.Prelude.{◌<◌, false, length, None};
+ghost use Rattle.std.specs.Prelude.{◌<◌, length, None};
 ghost use Rattle.memory.specs.Memories.{Did, world};
 ghost use Rattle.rules.specs.Answers.{load_answer};
-ghost use Rattle.rules.specs.Load.{load, load_logged, load_roomy};
+ghost use Rattle.rules.specs.Load.{load, load_logged};
 
 use crate::memory::Memory;
 use common::refusal::Refusal;
 use common::thread_id::ThreadId;
 use contention::policy::Policy;
-use layout::stripe_id::StripeId;
 use rules::kind::Kind;
 use rules::stop::Stop;
 use stores::word_store::WordStore;
@@ -38,27 +37,15 @@ impl<S: WordStore, P: Policy> Memory<S, P> {
         if !known && self.engine.threads[thread].reads_full() {
             return Err(Stop::Refused(Refusal::LogFull));
         }
-        self.load_free(thread, address, at, known)
-    }
-
-    // The word of the store, once the read log has room for its stripe or knows it.
-    fn load_free(
-        &mut self,
-        thread: ThreadId,
-        address: u32,
-        at: StripeId,
-        known: bool,
-    ) -> Result<u32, Stop>
-        requires { address < length (S.words self.old.words) }
-        ensures { Did S.words S.home P.moved self.old self.new (load_answer result) (load_roomy (P.table self.old.policy) (world S.words self.old) thread.number address at.number known false) }
-    {
         let stripe = self.engine.stripes[at];
         if self.engine.is_busy(thread, stripe.owner) {
             return Err(Stop::Refused(Refusal::StripeBusy));
         }
         self.engine.refresh(thread, stripe.version)?;
         self.contend(thread, stripe.owner)?;
-        self.engine.note_read(thread, at, stripe.version, known);
+        if !known {
+            self.engine.note_read(thread, at, stripe.version);
+        }
         self.policy.loaded(thread);
         Ok(self.words.read(address).unwrap())
     }

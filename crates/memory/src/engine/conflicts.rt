@@ -27,9 +27,7 @@ impl Engine {
     pub(crate) fn rival(&self, thread: ThreadId, owner: Option<ThreadId>) -> Option<ThreadId>
         ensures { numbered result ≡ rival_of (engine_view self.now) thread.number (owner_number owner) }
     {
-        owner.filter(|other| {
-            *other != thread && self.threads[*other].phase == Phase::Running
-        })
+        owner.filter(|other| { *other != thread && self.threads[*other].phase == Phase::Running })
     }
 
     // Whether a stripe is still as this entry of the thread's read log has it.

@@ -1,8 +1,8 @@
-ghost use Rattle.std.specs.Prelude.{◌≡◌, ◌+◌, ◌<◌};
+ghost use Rattle.std.specs.Prelude.{◌≡◌, ◌+◌, ◌<◌, false};
 ghost use Rattle.common.specs.declared.loss.Loss.TheVariants.{ClockSpent};
 ghost use Rattle.memory.specs.Views.{engine_view};
 ghost use Rattle.rules.specs.Begin.{fresh};
-ghost use Rattle.rules.specs.Drain.{release, settle};
+ghost use Rattle.rules.specs.Drain.{release};
 ghost use Rattle.rules.specs.Load.{note_at};
 ghost use Rattle.rules.specs.NewEngine.{new_engine};
 ghost use Rattle.rules.specs.Seal.{stamp};
@@ -67,19 +67,11 @@ impl Engine {
         self.threads.edit(thread, |cell| cell.snapshot = end);
     }
 
-    // Notes that the thread read a stripe at this version, unless it is known.
-    pub(crate) fn note_read(
-        &mut self,
-        thread: ThreadId,
-        stripe: StripeId,
-        version: u32,
-        known: bool,
-    )
-        ensures { engine_view self.new ≡ note_at (engine_view self.old) thread.number stripe.number version known }
+    // Notes that the thread read a stripe at this version.
+    pub(crate) fn note_read(&mut self, thread: ThreadId, stripe: StripeId, version: u32)
+        ensures { engine_view self.new ≡ note_at (engine_view self.old) thread.number stripe.number version false }
     {
-        if !known {
-            self.threads.edit(thread, |cell| cell.note_read(ReadEntry { stripe, version }));
-        }
+        self.threads.edit(thread, |cell| cell.note_read(ReadEntry { stripe, version }));
     }
 
     // Notes a word that the thread is to write.
@@ -130,16 +122,5 @@ impl Engine {
     {
         self.stripes.release(thread, version);
         self.enter(thread, Phase::Idle);
-    }
-
-    // Where no words are left, releases the thread's stripes at its ticket; else keeps how many were drained.
-    pub(crate) fn settle(&mut self, thread: ThreadId, ticket: u32, drained: u32, left: u32)
-        ensures { engine_view self.new ≡ settle (engine_view self.old) thread.number ticket drained left }
-    {
-        if left == 0 {
-            self.release(thread, Some(ticket));
-        } else {
-            self.enter(thread, Phase::Sealed { ticket, drained });
-        }
     }
 }

@@ -1,6 +1,6 @@
 use Rattle.std.proofs.Common.{◌≡◌, rules}
 use Rattle.memory.proofs.Keeps.{refresh_keeps, contend_keeps}
-use Rattle.memory.proofs.memory.Memory.load_free.Goals as goal
+use Rattle.memory.proofs.memory.Memory.load_stripe.Goals as goal
 use Rattle.memory.specs.Views.{engine_view, owner_number, stripe_table}
 use Rattle.rules.specs.Conflicts.{rival_of}
 
