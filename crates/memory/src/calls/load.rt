@@ -7,6 +7,7 @@ use crate::memory::Memory;
 use common::refusal::Refusal;
 use common::thread_id::ThreadId;
 use contention::policy::Policy;
+use layout::entries::ReadEntry;
 use rules::kind::Kind;
 use rules::stop::Stop;
 use stores::word_store::WordStore;
@@ -44,7 +45,13 @@ impl<S: WordStore, P: Policy> Memory<S, P> {
         self.engine.refresh(thread, stripe.version)?;
         self.contend(thread, stripe.owner)?;
         if !known {
-            self.engine.note_read(thread, at, stripe.version);
+            let entry = ReadEntry {
+                stripe: at,
+                version: stripe.version,
+            };
+            self.engine
+                .threads
+                .edit(thread, |cell| cell.note_read(entry));
         }
         self.policy.loaded(thread);
         Ok(self.words.read(address).unwrap())

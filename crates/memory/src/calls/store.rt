@@ -7,6 +7,7 @@ use crate::memory::Memory;
 use common::refusal::Refusal;
 use common::thread_id::ThreadId;
 use contention::policy::Policy;
+use layout::entries::WriteEntry;
 use rules::kind::Kind;
 use rules::stop::Stop;
 use stores::word_store::WordStore;
@@ -21,7 +22,9 @@ impl<S: WordStore, P: Policy> Memory<S, P> {
             return Err(Stop::Refused(Refusal::NoSuchPlace));
         }
         if self.engine.threads[id].writes.find(address).is_some() {
-            self.engine.rewrite(id, address, word);
+            self.engine
+                .threads
+                .edit(id, |cell| cell.rewrite(WriteEntry { address, word }));
             return Ok(());
         }
         self.store_stripe(id, address, word)
@@ -40,7 +43,7 @@ impl<S: WordStore, P: Policy> Memory<S, P> {
             return Err(Stop::Refused(Refusal::StripeBusy));
         }
         self.contend(thread, stripe.owner)?;
-        self.engine.note_write(thread, address, word);
+        self.engine.threads.edit(thread, |cell| cell.note_write(WriteEntry { address, word }));
         if !stripe.is_owned_by(thread) {
             self.engine.own(thread, at, stripe.version);
             self.policy.took(thread);

@@ -61,7 +61,8 @@ impl Engine {
                 },
             ));
         }
-        self.extend(thread);
+        let end = self.clock;
+        self.threads.edit(thread, |cell| cell.snapshot = end);
         Ok(())
     }
 

@@ -33,14 +33,6 @@ impl Engine {
         }
     }
 
-    // Starts a transaction of the thread at the clock.
-    pub(crate) fn start(&mut self, thread: ThreadId)
-        ensures { engine_view self.new ≡ with_thread (engine_view self.old) thread.number (fresh self.old.clock) }
-    {
-        let end = self.clock;
-        self.threads.edit(thread, |cell| cell.start(end));
-    }
-
     // Loses the thread's transaction, and hands on why.
     pub(crate) fn lose(&mut self, thread: ThreadId, loss: Loss) -> Loss
         ensures why { result ≡ loss }
@@ -57,36 +49,6 @@ impl Engine {
     {
         self.mark = true;
         self.lose(thread, Loss::ClockSpent)
-    }
-
-    // Moves the thread's snapshot end to the clock.
-    pub(crate) fn extend(&mut self, thread: ThreadId)
-        ensures { engine_view self.new ≡ with_thread (engine_view self.old) thread.number (with_snapshot (thread_of (engine_view self.old) thread.number) self.old.clock) }
-    {
-        let end = self.clock;
-        self.threads.edit(thread, |cell| cell.snapshot = end);
-    }
-
-    // Notes that the thread read a stripe at this version.
-    pub(crate) fn note_read(&mut self, thread: ThreadId, stripe: StripeId, version: u32)
-        ensures { engine_view self.new ≡ note_at (engine_view self.old) thread.number stripe.number version false }
-    {
-        self.threads.edit(thread, |cell| cell.note_read(ReadEntry { stripe, version }));
-    }
-
-    // Notes a word that the thread is to write.
-    pub(crate) fn note_write(&mut self, thread: ThreadId, address: u32, word: u32)
-        ensures { engine_view self.new ≡ note_write (engine_view self.old) thread.number address word }
-    {
-        self.threads.edit(thread, |cell| cell.note_write(WriteEntry { address, word }));
-    }
-
-    // Replaces the word that the thread is to write at a logged address.
-    pub(crate) fn rewrite(&mut self, thread: ThreadId, address: u32, word: u32)
-        ensures { engine_view self.new ≡ rewrite (engine_view self.old) thread.number address word }
-    {
-        self.threads
-            .edit(thread, |cell| cell.rewrite(WriteEntry { address, word }));
     }
 
     // Makes the thread the owner of a stripe of this version.
