@@ -49,6 +49,7 @@ impl Index<StripeId> for Stripes {
 
     ghost index_gives = { λ stripes id stripe. stripe_view stripe ≡ at (stripe_table stripes.all) id.number };
 
+    #[tactic(auto, using(crate::proofs::Tables::at_stripes))]
     fn index(&self, id: StripeId) -> &Stripe {
         &self.all[id.index()]
     }
@@ -68,6 +69,7 @@ impl Stripes {
     }
 
     // Puts a stripe in the place of the one of this number.
+    #[tactic(auto, using(crate::proofs::Tables::put_stripes))]
     pub(crate) fn set(&mut self, stripe: StripeId, to: Stripe)
         ensures { stripe_table self.new.all ≡ put (stripe_table self.old.all) stripe.number (stripe_view to) }
     {
@@ -75,6 +77,7 @@ impl Stripes {
     }
 
     // Releases each stripe of this thread.
+    #[tactic(auto, using(crate::proofs::Sweeps::swept_all, crate::proofs::Tables::freed_none))]
     pub(crate) fn release(&mut self, thread: ThreadId, version: Option<u32>)
         ensures { stripe_table self.new.all ≡ each (freed thread.number version) (stripe_table self.old.all) }
     {
@@ -84,6 +87,7 @@ impl Stripes {
     }
 
     // Sets all versions to 0.
+    #[tactic(auto, using(crate::proofs::Sweeps::swept_all))]
     pub(crate) fn roll(&mut self)
         ensures { stripe_table self.new.all ≡ each rolled_stripe (stripe_table self.old.all) }
     {

@@ -16,6 +16,7 @@ impl Index<ThreadId> for Threads {
 
     ghost index_gives = { λ threads id thread. thread_view thread ≡ at (thread_table threads.all) id.number };
 
+    #[tactic(auto, using(crate::proofs::Tables::at_threads))]
     fn index(&self, id: ThreadId) -> &Thread {
         &self.all[id.index()]
     }
