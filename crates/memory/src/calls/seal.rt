@@ -1,6 +1,5 @@
 ghost use Rattle.memory.specs.Memories.{Did, world};
-ghost use Rattle.memory.specs.Views.{engine_view};
-ghost use Rattle.std.specs.Prelude.{◌≡◌, false};
+ghost use Rattle.std.specs.Prelude.{false};
 ghost use Rattle.rules.specs.Answers.{seal_answer};
 ghost use Rattle.rules.specs.Seal.{seal, seal_updates};
 

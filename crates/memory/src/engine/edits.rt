@@ -1,20 +1,16 @@
-ghost use Rattle.std.specs.Prelude.{◌≡◌, ◌+◌, ◌<◌, false};
+ghost use Rattle.std.specs.Prelude.{◌≡◌, ◌+◌, ◌<◌};
 ghost use Rattle.common.specs.declared.loss.Loss.TheVariants.{ClockSpent};
 ghost use Rattle.memory.specs.Views.{engine_view};
-ghost use Rattle.rules.specs.Begin.{fresh};
 ghost use Rattle.rules.specs.Drain.{release};
-ghost use Rattle.rules.specs.Load.{note_at};
 ghost use Rattle.rules.specs.NewEngine.{new_engine};
 ghost use Rattle.rules.specs.Seal.{stamp};
-ghost use Rattle.rules.specs.States.{thread_of, with_thread, with_stripe, with_snapshot, marked, lose, enter};
-ghost use Rattle.rules.specs.Store.{note_write, rewrite};
+ghost use Rattle.rules.specs.States.{with_stripe, marked, lose, enter};
 
 use crate::engine::Engine;
 use crate::stripes::{Stripe, Stripes};
 use crate::threads::Threads;
 use common::loss::Loss;
 use common::thread_id::ThreadId;
-use layout::entries::{ReadEntry, WriteEntry};
 use layout::set_up::SetUp;
 use layout::stripe_id::StripeId;
 use rules::phase::Phase;
