@@ -7,12 +7,12 @@ use Rattle.memory.specs.declared.threads.Thread.{Thread as ThreadCell}
 use Rattle.rules.specs.Drain.{freed}
 use Rattle.rules.specs.Maps.{at, put, each, everywhere}
 use Rattle.rules.specs.NewEngine.{new_stripe, new_thread}
-use Rattle.rules.specs.States.{Stripe, Thread}
+use Rattle.rules.specs.States.{Stripe}
 use Rattle.std.proofs.lemmas.List.{get_or-map, map-set, length-map}
 use Rattle.std.proofs.lemmas.Bool.{eq-eqb, ne_eqb, cases_eq}
 
 -- reading a listed table
-at_listed : {A : Type 0} (d : A) (xs : List A) (n : ℕ) → at (listed d xs) n ≡ get_or xs n d
+pub at_listed : {A : Type 0} (d : A) (xs : List A) (n : ℕ) → at (listed d xs) n ≡ get_or xs n d
 unfolding at listed
 at_listed d xs n = refl
 
@@ -55,14 +55,6 @@ unfolding thread_table
 put_threads ts i n t e h =
     rw (e, map-set thread_view ts i t)
     (put_listed new_thread (new_thread ∷ map thread_view ts) (suc i) (thread_view t) (simp length-map (omega arith)))
-
--- one thread edited in place
-pub edit_threads : (ts : List ThreadCell) (i n : ℕ) (d t : ThreadCell) (f : Thread → Thread) →
-    thread_view t ≡ f (thread_view (get_or ts i d)) →
-    n ≡ suc i → i < length ts → thread_table (set ts i t) ≡ put (thread_table ts) n (f (at (thread_table ts) n))
-edit_threads ts i n d t f same e h =
-    put_threads ts i n t e h ∙
-    ap (put (thread_table ts) n) (same ∙ ap f (sym (at_threads ts i n d e h)))
 
 getD_each : {A : Type 0} (f : A → A) (d : A) → f d ≡ d → (xs : List A) (k : ℕ) → get_or (map f xs) k d ≡ f (get_or xs k d)
 getD_each f d e xs k = ap (get_or (map f xs) k) (sym e) ∙ ListN.get_or-map f xs k d

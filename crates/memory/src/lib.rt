@@ -1,4 +1,4 @@
-// A transactional word memory: words in any store, contention by any policy, six calls by thread number.
+// A transactional word memory: words in any store, contention by any policy, six calls by thread number and a roll of the clock.
 #![tactic(auto)]
 
 mod calls;

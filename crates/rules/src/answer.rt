@@ -1,4 +1,5 @@
 ghost use Rattle.std.specs.Prelude.{◌≡◌};
+ghost use Rattle.rules.specs.declared.answer.Answer.TheVariants.{Refused};
 ghost use Rattle.rules.specs.Answers.{begin_answer, load_answer, store_answer, seal_answer, drain_answer, back_answer, stop_answer};
 
 use crate::ending::{Ending, Sealed};
@@ -25,27 +26,36 @@ pub enum Answer {
     Lost(Loss),
 }
 
+// Why a call was refused.
+impl From<Refusal> for Answer {
+    ghost from_gives = { λ e r. r ≡ Refused e };
+
+    fn from(refusal: Refusal) -> Answer {
+        Answer::Refused(refusal)
+    }
+}
+
 // Why a load, a store or a seal did not go through.
 impl From<Stop> for Answer {
     ghost from_gives = { λ s r. r ≡ stop_answer s };
 
     fn from(stop: Stop) -> Answer {
         match stop {
-            Stop::Refused(refusal) => Answer::Refused(refusal),
+            Stop::Refused(refusal) => Answer::from(refusal),
             Stop::Lost(loss) => Answer::Lost(loss),
         }
     }
 }
+
+// The answers of the calls go by six types. Each has an impl of its own, since what a word, a count or nothing
+// becomes depends on both sides of its type, and since each gives the answer of its own rule.
 
 // What a begin or a roll returned.
 impl From<Result<(), Refusal>> for Answer {
     ghost from_gives = { λ a r. r ≡ begin_answer a };
 
     fn from(answer: Result<(), Refusal>) -> Answer {
-        match answer {
-            Ok(()) => Answer::Done,
-            Err(refusal) => Answer::Refused(refusal),
-        }
+        answer.map_or_else(Answer::from, |()| Answer::Done)
     }
 }
 
@@ -54,10 +64,7 @@ impl From<Result<u32, Stop>> for Answer {
     ghost from_gives = { λ a r. r ≡ load_answer a };
 
     fn from(answer: Result<u32, Stop>) -> Answer {
-        match answer {
-            Ok(word) => Answer::Word(word),
-            Err(stop) => Answer::from(stop),
-        }
+        answer.map_or_else(Answer::from, Answer::Word)
     }
 }
 
@@ -66,10 +73,7 @@ impl From<Result<(), Stop>> for Answer {
     ghost from_gives = { λ a r. r ≡ store_answer a };
 
     fn from(answer: Result<(), Stop>) -> Answer {
-        match answer {
-            Ok(()) => Answer::Done,
-            Err(stop) => Answer::from(stop),
-        }
+        answer.map_or_else(Answer::from, |()| Answer::Done)
     }
 }
 
@@ -78,10 +82,7 @@ impl From<Result<Sealed, Stop>> for Answer {
     ghost from_gives = { λ a r. r ≡ seal_answer a };
 
     fn from(answer: Result<Sealed, Stop>) -> Answer {
-        match answer {
-            Ok(sealed) => Answer::Sealed(sealed),
-            Err(stop) => Answer::from(stop),
-        }
+        answer.map_or_else(Answer::from, Answer::Sealed)
     }
 }
 
@@ -90,10 +91,7 @@ impl From<Result<u32, Refusal>> for Answer {
     ghost from_gives = { λ a r. r ≡ drain_answer a };
 
     fn from(answer: Result<u32, Refusal>) -> Answer {
-        match answer {
-            Ok(left) => Answer::Left(left),
-            Err(refusal) => Answer::Refused(refusal),
-        }
+        answer.map_or_else(Answer::from, Answer::Left)
     }
 }
 
@@ -102,9 +100,6 @@ impl From<Result<Ending, Refusal>> for Answer {
     ghost from_gives = { λ a r. r ≡ back_answer a };
 
     fn from(answer: Result<Ending, Refusal>) -> Answer {
-        match answer {
-            Ok(ending) => Answer::Back(ending),
-            Err(refusal) => Answer::Refused(refusal),
-        }
+        answer.map_or_else(Answer::from, Answer::Back)
     }
 }

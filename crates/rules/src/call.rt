@@ -1,5 +1,5 @@
 // A call as a value: which call it is, and what it is given.
-#[derive(Clone, Copy)]
+#[derive(Clone, Copy, PartialEq, Eq, Debug)]
 pub enum Call {
     // A transaction of this thread begins.
     Begin {

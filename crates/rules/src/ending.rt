@@ -12,7 +12,8 @@ pub enum Sealed {
     Updater { ticket: u32 },
 }
 
-// How the transaction ended that a thread went back from.
+// How the transaction ended that a thread went back from. It is no Option of a loss: a transaction that was given
+// up has ended too, by a cause of its own with the number 20, which None would not say.
 #[derive(Clone, Copy, PartialEq, Eq, Debug)]
 pub enum Ending {
     // The thread gave it up.

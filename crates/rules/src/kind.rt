@@ -1,8 +1,9 @@
 ghost use Rattle.std.specs.Prelude.{◌≡◌};
 ghost use Rattle.rules.specs.Admission.{tells_loss};
 
-// Which of the calls on a thread is made, without what it is given.
-#[derive(Clone, Copy)]
+// Which of the calls on a thread is made, without what it is given. A Call in its place would have the checks of the
+// thread's state read, or make up, an address and a word, and would let a roll in, which is no call on a thread.
+#[derive(Clone, Copy, PartialEq, Eq, Debug)]
 pub enum Kind {
     Begin,
     Load,
@@ -17,9 +18,6 @@ impl Kind {
     pub fn tells_loss(self) -> bool
         ensures { result ≡ tells_loss self }
     {
-        match self {
-            Kind::Load | Kind::Store | Kind::Seal => true,
-            Kind::Begin | Kind::Drain | Kind::Back => false,
-        }
+        matches!(self, Kind::Load | Kind::Store | Kind::Seal)
     }
 }

@@ -1,7 +1,7 @@
 use common::loss::Loss;
 
 // What a thread is doing.
-#[derive(Clone, Copy)]
+#[derive(Clone, Copy, PartialEq, Eq, Debug)]
 pub enum Phase {
     // It has no transaction.
     Idle,

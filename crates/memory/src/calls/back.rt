@@ -16,7 +16,7 @@ impl<S: WordStore, P: Policy> Memory<S, P> {
         ensures { Did S.words S.home P.moved self.old self.new (back_answer result) (back (world S.words self.old) thread) }
     {
         let id = self.engine.admit(Kind::Back, thread)?;
-        let ending = match self.engine.threads.get(id).phase {
+        let ending = match self.engine.threads[id].phase {
             Phase::Lost(loss) => Ending::Lost(loss),
             _ => Ending::GivenUp,
         };

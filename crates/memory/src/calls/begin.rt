@@ -17,7 +17,8 @@ impl<S: WordStore, P: Policy> Memory<S, P> {
         if self.engine.mark {
             return Err(Refusal::RollPending);
         }
-        self.engine.start(id);
+        let end = self.engine.clock;
+        self.engine.threads.edit(id, |cell| cell.start(end));
         Ok(())
     }
 }

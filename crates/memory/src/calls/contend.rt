@@ -14,7 +14,6 @@ impl<S, P: Policy> Memory<S, P> {
     pub(crate) fn contend(&mut self, thread: ThreadId, owner: Option<ThreadId>) -> Result<(), Loss>
         ensures step { Stepped (contended (P.table self.old.policy) (engine_view self.old.engine) thread.number (rival_of (engine_view self.old.engine) thread.number (owner_number owner))) result (engine_view self.new.engine) }
         ensures told { self.new.policy ≡ after_events P.moved self.old.policy (step_told (contended (P.table self.old.policy) (engine_view self.old.engine) thread.number (rival_of (engine_view self.old.engine) thread.number (owner_number owner)))) }
-        ensures stripes_kept { self.new.engine.stripes ≡ self.old.engine.stripes }
         ensures words_kept { self.new.words ≡ self.old.words }
     {
         let Some(rival) = self.engine.rival(thread, owner) else {

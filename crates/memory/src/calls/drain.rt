@@ -15,7 +15,7 @@ impl<S: WordStore, P: Policy> Memory<S, P> {
         ensures { Did S.words S.home P.moved self.old self.new (drain_answer result) (drain (world S.words self.old) thread) }
     {
         let id = self.engine.admit(Kind::Drain, thread)?;
-        let cell = self.engine.threads.get(id);
+        let cell = &self.engine.threads[id];
         let Phase::Sealed { ticket, drained } = cell.phase else {
             return Err(Refusal::WrongState);
         };
@@ -25,7 +25,12 @@ impl<S: WordStore, P: Policy> Memory<S, P> {
         };
         let left = cell.writes.len() - (drained + 1);
         let _ = self.words.write(entry.address, entry.word);
-        self.engine.settle(id, ticket, drained + 1, left);
+        if left == 0 {
+            self.engine.release(id, Some(ticket));
+        } else {
+            let drained = drained + 1;
+            self.engine.enter(id, Phase::Sealed { ticket, drained });
+        }
         Ok(left)
     }
 }

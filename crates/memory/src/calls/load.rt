@@ -1,13 +1,13 @@
-ghost use Rattle.std.specs.Prelude.{◌<◌, false, length, None};
+ghost use Rattle.std.specs.Prelude.{◌<◌, length, None};
 ghost use Rattle.memory.specs.Memories.{Did, world};
 ghost use Rattle.rules.specs.Answers.{load_answer};
-ghost use Rattle.rules.specs.Load.{load, load_logged, load_roomy};
+ghost use Rattle.rules.specs.Load.{load, load_logged};
 
 use crate::memory::Memory;
 use common::refusal::Refusal;
 use common::thread_id::ThreadId;
 use contention::policy::Policy;
-use layout::stripe_id::StripeId;
+use layout::entries::ReadEntry;
 use rules::kind::Kind;
 use rules::stop::Stop;
 use stores::word_store::WordStore;
@@ -21,7 +21,7 @@ impl<S: WordStore, P: Policy> Memory<S, P> {
         if address >= self.words.size() {
             return Err(Stop::Refused(Refusal::NoSuchPlace));
         }
-        if let Some(entry) = self.engine.written(id, address) {
+        if let Some(entry) = self.engine.threads[id].writes.find(address) {
             self.policy.loaded(id);
             return Ok(entry.word);
         }
@@ -34,31 +34,25 @@ impl<S: WordStore, P: Policy> Memory<S, P> {
         ensures { Did S.words S.home P.moved self.old self.new (load_answer result) (load_logged (P.table self.old.policy) (world S.words self.old) thread.number address None) }
     {
         let at = self.engine.set_up.stripe_of(address);
-        let known = self.engine.has_read(thread, at);
-        if !known && self.engine.reads_full(thread) {
+        let known = self.engine.threads[thread].has_read(at);
+        if !known && self.engine.threads[thread].reads_full() {
             return Err(Stop::Refused(Refusal::LogFull));
         }
-        self.load_free(thread, address, at, known)
-    }
-
-    // The word of the store, once the read log has room for its stripe or knows it.
-    fn load_free(
-        &mut self,
-        thread: ThreadId,
-        address: u32,
-        at: StripeId,
-        known: bool,
-    ) -> Result<u32, Stop>
-        requires { address < length (S.words self.old.words) }
-        ensures { Did S.words S.home P.moved self.old self.new (load_answer result) (load_roomy (P.table self.old.policy) (world S.words self.old) thread.number address at.number known false) }
-    {
-        let stripe = self.engine.stripes.get(at);
+        let stripe = self.engine.stripes[at];
         if self.engine.is_busy(thread, stripe.owner) {
             return Err(Stop::Refused(Refusal::StripeBusy));
         }
         self.engine.refresh(thread, stripe.version)?;
         self.contend(thread, stripe.owner)?;
-        self.engine.note_read(thread, at, stripe.version, known);
+        if !known {
+            let entry = ReadEntry {
+                stripe: at,
+                version: stripe.version,
+            };
+            self.engine
+                .threads
+                .edit(thread, |cell| cell.note_read(entry));
+        }
         self.policy.loaded(thread);
         Ok(self.words.read(address).unwrap())
     }

@@ -12,7 +12,7 @@ impl<S, P> Memory<S, P> {
         ensures { result ≡ peek (engine_view self.now.engine) stripe }
     {
         let at = self.engine.set_up.stripe(stripe)?;
-        let stripe = self.engine.stripes.get(at);
+        let stripe = self.engine.stripes[at];
         pack(stripe.version, stripe.owner_number())
     }
 }

@@ -1,6 +1,5 @@
 ghost use Rattle.memory.specs.Memories.{Did, world};
-ghost use Rattle.memory.specs.Views.{engine_view};
-ghost use Rattle.std.specs.Prelude.{◌≡◌, false};
+ghost use Rattle.std.specs.Prelude.{false};
 ghost use Rattle.rules.specs.Answers.{seal_answer};
 ghost use Rattle.rules.specs.Seal.{seal, seal_updates};
 
@@ -19,10 +18,10 @@ impl<S: WordStore, P: Policy> Memory<S, P> {
         ensures { Did S.words S.home P.moved self.old self.new (seal_answer result) (seal (world S.words self.old) thread) }
     {
         let id = self.engine.admit(Kind::Seal, thread)?;
-        if !self.engine.threads.get(id).writes.is_empty() {
+        if !self.engine.threads[id].writes.is_empty() {
             return self.seal_updater(id);
         }
-        let snapshot = self.engine.threads.get(id).snapshot;
+        let snapshot = self.engine.threads[id].snapshot;
         self.engine.enter(id, Phase::Idle);
         self.policy.sealed(id);
         Ok(Sealed::Reader { snapshot })

@@ -7,6 +7,7 @@ use crate::memory::Memory;
 use common::refusal::Refusal;
 use common::thread_id::ThreadId;
 use contention::policy::Policy;
+use layout::entries::WriteEntry;
 use rules::kind::Kind;
 use rules::stop::Stop;
 use stores::word_store::WordStore;
@@ -20,8 +21,10 @@ impl<S: WordStore, P: Policy> Memory<S, P> {
         if address >= self.words.size() {
             return Err(Stop::Refused(Refusal::NoSuchPlace));
         }
-        if self.engine.written(id, address).is_some() {
-            self.engine.rewrite(id, address, word);
+        if self.engine.threads[id].writes.find(address).is_some() {
+            self.engine
+                .threads
+                .edit(id, |cell| cell.rewrite(WriteEntry { address, word }));
             return Ok(());
         }
         self.store_stripe(id, address, word)
@@ -31,16 +34,16 @@ impl<S: WordStore, P: Policy> Memory<S, P> {
     fn store_stripe(&mut self, thread: ThreadId, address: u32, word: u32) -> Result<(), Stop>
         ensures { Did S.words S.home P.moved self.old self.new (store_answer result) (store_logged (P.table self.old.policy) (world S.words self.old) thread.number address word false) }
     {
-        if self.engine.writes_full(thread) {
+        if self.engine.threads[thread].writes.is_full() {
             return Err(Stop::Refused(Refusal::LogFull));
         }
         let at = self.engine.set_up.stripe_of(address);
-        let stripe = self.engine.stripes.get(at);
+        let stripe = self.engine.stripes[at];
         if self.engine.is_busy(thread, stripe.owner) {
             return Err(Stop::Refused(Refusal::StripeBusy));
         }
         self.contend(thread, stripe.owner)?;
-        self.engine.note_write(thread, address, word);
+        self.engine.threads.edit(thread, |cell| cell.note_write(WriteEntry { address, word }));
         if !stripe.is_owned_by(thread) {
             self.engine.own(thread, at, stripe.version);
             self.policy.took(thread);

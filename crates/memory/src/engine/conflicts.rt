@@ -18,34 +18,23 @@ impl Engine {
     pub(crate) fn is_busy(&self, thread: ThreadId, owner: Option<ThreadId>) -> bool
         ensures { result ≡ busy_by (engine_view self.now) thread.number (owner_number owner) }
     {
-        match owner {
-            Some(other) if other.number() != thread.number() => {
-                matches!(self.threads.get(other).phase, Phase::Sealed { .. })
-            }
-            _ => false,
-        }
+        owner.is_some_and(|other| {
+            other != thread && matches!(self.threads[other].phase, Phase::Sealed { .. })
+        })
     }
 
     // This owner of a stripe, if it is another thread that is running.
     pub(crate) fn rival(&self, thread: ThreadId, owner: Option<ThreadId>) -> Option<ThreadId>
         ensures { numbered result ≡ rival_of (engine_view self.now) thread.number (owner_number owner) }
     {
-        match owner {
-            Some(other) if other.number() != thread.number() => {
-                match self.threads.get(other).phase {
-                    Phase::Running => Some(other),
-                    _ => None,
-                }
-            }
-            _ => None,
-        }
+        owner.filter(|other| { *other != thread && self.threads[*other].phase == Phase::Running })
     }
 
     // Whether a stripe is still as this entry of the thread's read log has it.
     fn is_valid(&self, thread: ThreadId, entry: ReadEntry) -> bool
         ensures { result ≡ is_valid (engine_view self.now) thread.number (read_mark entry) }
     {
-        let stripe = self.stripes.get(entry.stripe);
+        let stripe = self.stripes[entry.stripe];
         stripe.version == entry.version && !self.is_busy(thread, stripe.owner)
     }
 
@@ -53,20 +42,17 @@ impl Engine {
     fn first_invalid(&self, thread: ThreadId, entries: &[ReadEntry]) -> Option<StripeId>
         ensures { stripe_numbered result ≡ first_invalid (engine_view self.now) thread.number (map read_mark entries.now) }
     {
-        for entry in entries {
-            if !self.is_valid(thread, *entry) {
-                return Some(entry.stripe);
-            }
-        }
-        None
+        entries
+            .iter()
+            .find(|entry| !self.is_valid(thread, **entry))
+            .map(|entry| entry.stripe)
     }
 
     // Checks the thread's read log: an invalid entry loses the transaction, else its snapshot end becomes the clock.
     pub(crate) fn recheck(&mut self, thread: ThreadId) -> Result<(), Loss>
-        ensures step { Stepped (recheck (engine_view self.old) thread.number) result (engine_view self.new) }
-        ensures stripes_kept { self.new.stripes ≡ self.old.stripes }
+        ensures { Stepped (recheck (engine_view self.old) thread.number) result (engine_view self.new) }
     {
-        let entries = self.threads.get(thread).reads.entries();
+        let entries = self.threads[thread].reads.entries();
         if let Some(stripe) = self.first_invalid(thread, entries) {
             return Err(self.lose(
                 thread,
@@ -75,7 +61,8 @@ impl Engine {
                 },
             ));
         }
-        self.extend(thread);
+        let end = self.clock;
+        self.threads.edit(thread, |cell| cell.snapshot = end);
         Ok(())
     }
 
@@ -83,7 +70,7 @@ impl Engine {
     pub(crate) fn check_reads(&mut self, thread: ThreadId) -> Result<(), Loss>
         ensures { Stepped (seal_check (engine_view self.old) thread.number (self.old.clock == (thread_of (engine_view self.old) thread.number).snapshot)) result (engine_view self.new) }
     {
-        if self.clock == self.threads.get(thread).snapshot {
+        if self.clock == self.threads[thread].snapshot {
             Ok(())
         } else {
             self.recheck(thread)
@@ -92,10 +79,9 @@ impl Engine {
 
     // Checks the thread's read log if a stripe that it loads from is newer than its snapshot end.
     pub(crate) fn refresh(&mut self, thread: ThreadId, version: u32) -> Result<(), Loss>
-        ensures step { Stepped (refresh_to (engine_view self.old) thread.number version) result (engine_view self.new) }
-        ensures stripes_kept { self.new.stripes ≡ self.old.stripes }
+        ensures { Stepped (refresh_to (engine_view self.old) thread.number version) result (engine_view self.new) }
     {
-        if self.threads.get(thread).snapshot < version {
+        if self.threads[thread].snapshot < version {
             self.recheck(thread)
         } else {
             Ok(())

@@ -1,20 +1,16 @@
 ghost use Rattle.std.specs.Prelude.{◌≡◌, ◌+◌, ◌<◌};
 ghost use Rattle.common.specs.declared.loss.Loss.TheVariants.{ClockSpent};
 ghost use Rattle.memory.specs.Views.{engine_view};
-ghost use Rattle.rules.specs.Begin.{fresh};
-ghost use Rattle.rules.specs.Drain.{release, settle};
-ghost use Rattle.rules.specs.Load.{note_at};
+ghost use Rattle.rules.specs.Drain.{release};
 ghost use Rattle.rules.specs.NewEngine.{new_engine};
 ghost use Rattle.rules.specs.Seal.{stamp};
-ghost use Rattle.rules.specs.States.{thread_of, with_thread, with_stripe, with_snapshot, marked, lose, enter};
-ghost use Rattle.rules.specs.Store.{note_write, rewrite};
+ghost use Rattle.rules.specs.States.{with_stripe, marked, lose, enter};
 
 use crate::engine::Engine;
 use crate::stripes::{Stripe, Stripes};
 use crate::threads::Threads;
 use common::loss::Loss;
 use common::thread_id::ThreadId;
-use layout::entries::{ReadEntry, WriteEntry};
 use layout::set_up::SetUp;
 use layout::stripe_id::StripeId;
 use rules::phase::Phase;
@@ -33,20 +29,12 @@ impl Engine {
         }
     }
 
-    // Starts a transaction of the thread at the clock.
-    pub(crate) fn start(&mut self, thread: ThreadId)
-        ensures { engine_view self.new ≡ with_thread (engine_view self.old) thread.number (fresh self.old.clock) }
-    {
-        self.threads.start(thread, self.clock);
-    }
-
     // Loses the thread's transaction, and hands on why.
     pub(crate) fn lose(&mut self, thread: ThreadId, loss: Loss) -> Loss
         ensures why { result ≡ loss }
         ensures after { engine_view self.new ≡ lose (engine_view self.old) thread.number loss }
-        ensures stripes_kept { self.new.stripes ≡ self.old.stripes }
     {
-        self.threads.enter(thread, Phase::Lost(loss));
+        self.enter(thread, Phase::Lost(loss));
         loss
     }
 
@@ -57,45 +45,6 @@ impl Engine {
     {
         self.mark = true;
         self.lose(thread, Loss::ClockSpent)
-    }
-
-    // Moves the thread's snapshot end to the clock.
-    pub(crate) fn extend(&mut self, thread: ThreadId)
-        ensures after { engine_view self.new ≡ with_thread (engine_view self.old) thread.number (with_snapshot (thread_of (engine_view self.old) thread.number) self.old.clock) }
-        ensures stripes_kept { self.new.stripes ≡ self.old.stripes }
-    {
-        self.threads.extend(thread, self.clock);
-    }
-
-    // Notes that the thread read a stripe at this version, unless it is known.
-    pub(crate) fn note_read(
-        &mut self,
-        thread: ThreadId,
-        stripe: StripeId,
-        version: u32,
-        known: bool,
-    )
-        ensures { engine_view self.new ≡ note_at (engine_view self.old) thread.number stripe.number version known }
-    {
-        if !known {
-            self.threads
-                .note_read(thread, ReadEntry { stripe, version });
-        }
-    }
-
-    // Notes a word that the thread is to write.
-    pub(crate) fn note_write(&mut self, thread: ThreadId, address: u32, word: u32)
-        ensures { engine_view self.new ≡ note_write (engine_view self.old) thread.number address word }
-    {
-        self.threads
-            .note_write(thread, WriteEntry { address, word });
-    }
-
-    // Replaces the word that the thread is to write at a logged address.
-    pub(crate) fn rewrite(&mut self, thread: ThreadId, address: u32, word: u32)
-        ensures { engine_view self.new ≡ rewrite (engine_view self.old) thread.number address word }
-    {
-        self.threads.rewrite(thread, WriteEntry { address, word });
     }
 
     // Makes the thread the owner of a stripe of this version.
@@ -114,8 +63,7 @@ impl Engine {
     {
         let ticket = self.clock + 1;
         self.clock = ticket;
-        self.threads
-            .enter(thread, Phase::Sealed { ticket, drained: 0 });
+        self.enter(thread, Phase::Sealed { ticket, drained: 0 });
         ticket
     }
 
@@ -123,7 +71,7 @@ impl Engine {
     pub(crate) fn enter(&mut self, thread: ThreadId, phase: Phase)
         ensures { engine_view self.new ≡ enter (engine_view self.old) thread.number phase }
     {
-        self.threads.enter(thread, phase);
+        self.threads.edit(thread, |cell| cell.phase = phase);
     }
 
     // Releases the thread's stripes, at a new version if there is one, and makes it idle.
@@ -131,17 +79,6 @@ impl Engine {
         ensures { engine_view self.new ≡ release (engine_view self.old) thread.number version }
     {
         self.stripes.release(thread, version);
-        self.threads.enter(thread, Phase::Idle);
-    }
-
-    // Where no words are left, releases the thread's stripes at its ticket; else keeps how many were drained.
-    pub(crate) fn settle(&mut self, thread: ThreadId, ticket: u32, drained: u32, left: u32)
-        ensures { engine_view self.new ≡ settle (engine_view self.old) thread.number ticket drained left }
-    {
-        if left == 0 {
-            self.release(thread, Some(ticket));
-        } else {
-            self.enter(thread, Phase::Sealed { ticket, drained });
-        }
+        self.enter(thread, Phase::Idle);
     }
 }

@@ -8,48 +8,50 @@ ghost use Rattle.rules.specs.NewEngine.{new_stripe};
 use super::{Stripe, Stripes};
 use common::thread_id::ThreadId;
 use layout::stripe_id::StripeId;
+use std::ops::Index;
 
 impl Stripe {
     // The number of its owner, 0 for none.
     pub(crate) fn owner_number(self) -> u32
         ensures { result ≡ owner_number self.owner }
     {
-        match self.owner {
-            Some(owner) => owner.number(),
-            None => 0,
-        }
+        self.owner.map_or(0, ThreadId::number)
     }
 
     // Whether this thread owns it.
     pub(crate) fn is_owned_by(self, thread: ThreadId) -> bool
         ensures { result ≡ (owner_number self.owner == thread.number) }
     {
-        match self.owner {
-            Some(owner) => owner.number() == thread.number(),
-            None => false,
-        }
+        self.owner == Some(thread)
     }
 
     // Has no owner any more if this thread owns it; then a new version counts too.
     fn release(&mut self, thread: ThreadId, version: Option<u32>)
         ensures { stripe_view self.new ≡ freed thread.number version (stripe_view self.old) }
     {
-        match self.owner {
-            Some(owner) if owner.number() == thread.number() => {
-                self.version = version.unwrap_or(self.version);
-                self.owner = None;
-            }
-            _ => {}
+        if self.is_owned_by(thread) {
+            self.version = version.unwrap_or(self.version);
+            self.owner = None;
         }
     }
-}
 
-impl Stripe {
     // Has version 0, and the owner that it had.
     fn roll(&mut self)
         ensures { stripe_view self.new ≡ rolled_stripe (stripe_view self.old) }
     {
         self.version = 0;
+    }
+}
+
+// The stripe of a number.
+impl Index<StripeId> for Stripes {
+    type Output = Stripe;
+
+    ghost index_gives = { λ stripes id stripe. stripe_view stripe ≡ at (stripe_table stripes.all) id.number };
+
+    #[tactic(auto, using(crate::proofs::Tables::at_stripes))]
+    fn index(&self, id: StripeId) -> &Stripe {
+        &self.all[id.index()]
     }
 }
 
@@ -66,16 +68,8 @@ impl Stripes {
         }
     }
 
-    // The stripe of this number.
-    pub(crate) fn get(&self, stripe: StripeId) -> Stripe
-        ensures view { stripe_view result ≡ at (stripe_table self.now.all) stripe.number }
-        ensures version { result.version ≡ (at (stripe_table self.now.all) stripe.number).version }
-        ensures owner { owner_number result.owner ≡ (at (stripe_table self.now.all) stripe.number).owner }
-    {
-        self.all[stripe.index()]
-    }
-
     // Puts a stripe in the place of the one of this number.
+    #[tactic(auto, using(crate::proofs::Tables::put_stripes))]
     pub(crate) fn set(&mut self, stripe: StripeId, to: Stripe)
         ensures { stripe_table self.new.all ≡ put (stripe_table self.old.all) stripe.number (stripe_view to) }
     {
@@ -83,21 +77,21 @@ impl Stripes {
     }
 
     // Releases each stripe of this thread.
+    #[tactic(auto, using(crate::proofs::Sweeps::swept_all, crate::proofs::Tables::freed_none))]
     pub(crate) fn release(&mut self, thread: ThreadId, version: Option<u32>)
         ensures { stripe_table self.new.all ≡ each (freed thread.number version) (stripe_table self.old.all) }
     {
-        let all = &mut self.all;
-        for stripe in all.iter_mut() {
+        for stripe in &mut self.all {
             stripe.release(thread, version);
         }
     }
 
     // Sets all versions to 0.
+    #[tactic(auto, using(crate::proofs::Sweeps::swept_all))]
     pub(crate) fn roll(&mut self)
         ensures { stripe_table self.new.all ≡ each rolled_stripe (stripe_table self.old.all) }
     {
-        let all = &mut self.all;
-        for stripe in all.iter_mut() {
+        for stripe in &mut self.all {
             stripe.roll();
         }
     }

@@ -4,7 +4,7 @@ ghost use Rattle.memory.specs.Views.{thread_view, read_mark};
 ghost use Rattle.rules.specs.Begin.{fresh};
 ghost use Rattle.rules.specs.Load.{grown, has_read, is_full};
 ghost use Rattle.rules.specs.NewEngine.{new_thread};
-ghost use Rattle.rules.specs.States.{with_phase, with_snapshot, with_reads, with_writes};
+ghost use Rattle.rules.specs.States.{with_reads, with_writes};
 
 use super::Thread;
 use layout::entries::{ReadEntry, WriteEntry};
@@ -50,20 +50,6 @@ impl Thread {
         self.snapshot = end;
         self.reads.clear();
         self.writes.clear();
-    }
-
-    // Moves on to a phase.
-    pub(crate) fn enter(&mut self, phase: Phase)
-        ensures { thread_view self.new ≡ with_phase (thread_view self.old) phase }
-    {
-        self.phase = phase;
-    }
-
-    // Moves the snapshot end.
-    pub(crate) fn extend(&mut self, end: u32)
-        ensures { thread_view self.new ≡ with_snapshot (thread_view self.old) end }
-    {
-        self.snapshot = end;
     }
 
     // Notes a stripe that was read.

@@ -1,19 +1,27 @@
-ghost use Rattle.std.specs.Prelude.{◌≡◌};
-ghost use Rattle.layout.specs.Lookups.{replaced};
-ghost use Rattle.memory.specs.Views.{thread_table, thread_view, read_mark};
-ghost use Rattle.rules.specs.Begin.{fresh};
-ghost use Rattle.rules.specs.Load.{grown};
-ghost use Rattle.rules.specs.Maps.{at, put, everywhere};
+ghost use Rattle.std.specs.Prelude.{◌≡◌, ◌≤◌, take};
+ghost use Rattle.std.specs.Fn.{FnOnceReturnsAtMut};
+ghost use Rattle.memory.specs.Edits.{Edited};
+ghost use Rattle.memory.specs.Views.{thread_table, thread_view};
+ghost use Rattle.rules.specs.Maps.{at, everywhere};
 ghost use Rattle.rules.specs.NewEngine.{new_thread};
-ghost use Rattle.rules.specs.States.{with_phase, with_snapshot, with_reads, with_writes};
 
 use super::{Thread, Threads};
 use common::thread_id::ThreadId;
-use layout::entries::{ReadEntry, WriteEntry};
 use layout::stripe_id::StripeId;
-use rules::phase::Phase;
+use std::ops::Index;
 
-// Each edit works on the one thread in its place, so that no thread is copied.
+// The thread of a number.
+impl Index<ThreadId> for Threads {
+    type Output = Thread;
+
+    ghost index_gives = { λ threads id thread. thread_view thread ≡ at (thread_table threads.all) id.number };
+
+    #[tactic(auto, using(crate::proofs::Tables::at_threads))]
+    fn index(&self, id: ThreadId) -> &Thread {
+        &self.all[id.index()]
+    }
+}
+
 impl Threads {
     // All threads idle, with empty logs; the stripe fills places of the read logs that are not used yet.
     pub(crate) fn new(stripe: StripeId) -> Threads
@@ -24,58 +32,20 @@ impl Threads {
         }
     }
 
-    // The thread of this number.
-    pub(crate) fn get(&self, thread: ThreadId) -> &Thread
-        ensures { thread_view result.now ≡ at (thread_table self.now.all) thread.number }
+    // The threads up to the one of this number.
+    pub(crate) fn up_to(&self, last: u32) -> &[Thread]
+        requires { last ≤ 8 }
+        ensures { result.now ≡ take last self.now.all }
     {
-        &self.all[thread.index()]
+        &self.all[..last as usize]
     }
 
-    // Starts a transaction of this snapshot end.
-    pub(crate) fn start(&mut self, thread: ThreadId, end: u32)
-        ensures { thread_table self.new.all ≡ put (thread_table self.old.all) thread.number (fresh end) }
+    // Edits the thread of this number in its place, so that it is not copied.
+    pub(crate) fn edit<F: FnOnce(&mut Thread)>(&mut self, thread: ThreadId, edit: F)
+        requires { F.IsAlwaysCallable edit }
+        ensures { Edited (λ before after. FnOnceReturnsAtMut F.FnOnce edit before tt after) self.old.all self.new.all thread.number }
     {
         let all = &mut self.all;
-        all[thread.index()].start(end);
-    }
-
-    // Moves a thread on to a phase.
-    pub(crate) fn enter(&mut self, thread: ThreadId, phase: Phase)
-        ensures { thread_table self.new.all ≡ put (thread_table self.old.all) thread.number (with_phase (at (thread_table self.old.all) thread.number) phase) }
-    {
-        let all = &mut self.all;
-        all[thread.index()].enter(phase);
-    }
-
-    // Moves a thread's snapshot end.
-    pub(crate) fn extend(&mut self, thread: ThreadId, end: u32)
-        ensures { thread_table self.new.all ≡ put (thread_table self.old.all) thread.number (with_snapshot (at (thread_table self.old.all) thread.number) end) }
-    {
-        let all = &mut self.all;
-        all[thread.index()].extend(end);
-    }
-
-    // Notes a stripe that a thread read.
-    pub(crate) fn note_read(&mut self, thread: ThreadId, entry: ReadEntry)
-        ensures { thread_table self.new.all ≡ put (thread_table self.old.all) thread.number (with_reads (at (thread_table self.old.all) thread.number) (grown (at (thread_table self.old.all) thread.number).reads (read_mark entry))) }
-    {
-        let all = &mut self.all;
-        all[thread.index()].note_read(entry);
-    }
-
-    // Notes a word that a thread is to write.
-    pub(crate) fn note_write(&mut self, thread: ThreadId, entry: WriteEntry)
-        ensures { thread_table self.new.all ≡ put (thread_table self.old.all) thread.number (with_writes (at (thread_table self.old.all) thread.number) (grown (at (thread_table self.old.all) thread.number).writes entry)) }
-    {
-        let all = &mut self.all;
-        all[thread.index()].note_write(entry);
-    }
-
-    // Replaces the word that a thread is to write at a logged address.
-    pub(crate) fn rewrite(&mut self, thread: ThreadId, entry: WriteEntry)
-        ensures { thread_table self.new.all ≡ put (thread_table self.old.all) thread.number (with_writes (at (thread_table self.old.all) thread.number) (replaced (λ e. e.address) entry (at (thread_table self.old.all) thread.number).writes)) }
-    {
-        let all = &mut self.all;
-        all[thread.index()].rewrite(entry);
+        edit(&mut all[thread.index()]);
     }
 }

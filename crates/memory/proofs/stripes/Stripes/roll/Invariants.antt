@@ -3,4 +3,4 @@ use Rattle.memory.proofs.stripes.Stripes.roll.Given as goal
 use Rattle.rules.specs.Roll.{rolled_stripe}
 
 abbrev pub invariant-loop-stripe : goal.invariant-loop-stripe
-invariant-loop-stripe l = Swept (rolled_stripe) l.initial.all l.all l.stripe-index
+invariant-loop-stripe l = Swept (rolled_stripe) l.initial.stripe-items l.stripe-items l.stripe-index
