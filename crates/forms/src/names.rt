@@ -1,7 +1,16 @@
-ghost use Rattle.std.specs.Prelude.{◌≡◌};
+ghost use Rattle.std.specs.Prelude.{◌≡◌, ℕ, List, Option};
 ghost use Rattle.forms.specs.Names.{kind_named, part_named, policy_named};
 
 use crate::form::{PolicyName, StoreKind};
+
+// What a name can mean. A name that means nothing is no fault yet, so this is no TryFrom: its reader knows which it is.
+pub trait Named: Sized {
+    ghost named: { List ℕ → Option Self };
+
+    // What the name means, if it means anything.
+    fn named(name: &[u8]) -> Option<Self>
+        ensures { result ≡ named name.now };
+}
 
 // A part of an engine form.
 #[derive(Clone, Copy)]
@@ -32,26 +41,28 @@ impl Part {
     }
 }
 
-// The kind of store that a name means, if there is one.
-pub fn kind_named(name: &[u8]) -> Option<StoreKind>
-    ensures { result ≡ kind_named name.now }
-{
-    match name {
-        b"plain" => Some(StoreKind::Plain),
-        b"registers" => Some(StoreKind::Registers),
-        _ => None,
+impl Named for StoreKind {
+    ghost named = { kind_named };
+
+    fn named(name: &[u8]) -> Option<StoreKind> {
+        match name {
+            b"plain" => Some(StoreKind::Plain),
+            b"registers" => Some(StoreKind::Registers),
+            _ => None,
+        }
     }
 }
 
-// The policy that a name means, if there is one.
-pub fn policy_named(name: &[u8]) -> Option<PolicyName>
-    ensures { result ≡ policy_named name.now }
-{
-    match name {
-        b"suicide" => Some(PolicyName::Suicide),
-        b"aggressive" => Some(PolicyName::Aggressive),
-        b"karma" => Some(PolicyName::Karma),
-        b"killprio" => Some(PolicyName::KillPrio),
-        _ => None,
+impl Named for PolicyName {
+    ghost named = { policy_named };
+
+    fn named(name: &[u8]) -> Option<PolicyName> {
+        match name {
+            b"suicide" => Some(PolicyName::Suicide),
+            b"aggressive" => Some(PolicyName::Aggressive),
+            b"karma" => Some(PolicyName::Karma),
+            b"killprio" => Some(PolicyName::KillPrio),
+            _ => None,
+        }
     }
 }
