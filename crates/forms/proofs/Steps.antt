@@ -1,28 +1,24 @@
 -- How numbers are read one by one.
-use Rattle.std.proofs.Common.{◌≡◌, ℕ, zero, suc, List, [], ◌∷◌, ◌++◌, Ok, Err, ap, ◌∙◌}
+use Rattle.std.proofs.Common.{◌≡◌, ℕ, zero, suc, ◌+◌, ◌-◌, ◌<◌, List, [], ◌∷◌, ◌++◌, length, take, slice_set, Ok, ap, arith, sym, ◌∙◌}
+use Rattle.std.proofs.lemmas.List.{take_more_set}
 use Rattle.forms.specs.Items.{bracket_at, item_at, number_in}
 use Rattle.forms.specs.Numbers.{numbers_behind}
-use Rattle.forms.specs.Views.{Read, Reading, ◌>>=◌}
-use Rattle.forms.specs.declared.form_fault.FormFault.{FormFault}
+use Rattle.forms.specs.Views.{Read, ◌>>=◌}
 use Rattle.forms.specs.declared.item.Bracket.TheVariants.{Close}
 use Rattle.text.specs.Tokens.{Spot}
 
--- one number more is read
-pub numbers_step : (ns : List ℕ) (m k : ℕ) (s : Spot) (r : Reading ℕ) → m ≡ suc k → item_at number_in s ≡ Ok r → numbers_behind ns m s ≡ numbers_behind (ns ++ (r.value ∷ [])) k r.after
-numbers_step ns m k s r e h =
-    ap (λ x. numbers_behind ns x s) e ∙ ap (λ (o : Read ℕ). o >>= λ n. numbers_behind (ns ++ (n.value ∷ [])) k n.after) h
+-- where a number is still to come, it is the next item
+pub numbers_more : (ns : List ℕ) (m : ℕ) (s : Spot) → 0 < m → numbers_behind ns m s ≡ (item_at number_in s >>= λ n. numbers_behind (ns ++ (n.value ∷ [])) (m - 1) n.after)
+numbers_more ns zero s h = absurd (omega arith)
+numbers_more ns (suc k) s h = ap (λ j. item_at number_in s >>= λ n. numbers_behind (ns ++ (n.value ∷ [])) j n.after) (omega arith)
 
--- a number is missing
-pub numbers_fault : (ns : List ℕ) (m k : ℕ) (s : Spot) (f : FormFault) → m ≡ suc k → item_at number_in s ≡ Err f → numbers_behind ns m s ≡ Err f
-numbers_fault ns m k s f e h =
-    ap (λ x. numbers_behind ns x s) e ∙ ap (λ (o : Read ℕ). o >>= λ n. numbers_behind (ns ++ (n.value ∷ [])) k n.after) h
+-- where none is, the closing bracket is
+pub numbers_done : (ns : List ℕ) (m : ℕ) (s : Spot) → m ≡ 0 → numbers_behind ns m s ≡ (bracket_at Close s >>= λ c. Ok ns)
+numbers_done ns m s h = ap (λ j. numbers_behind ns j s) h
 
--- all are read, and the form is closed
-pub numbers_closed : (ns : List ℕ) (m : ℕ) (s : Spot) (r : Reading (Unit {0})) → m ≡ zero → bracket_at Close s ≡ Ok r → numbers_behind ns m s ≡ Ok ns
-numbers_closed ns m s r e h =
-    ap (λ x. numbers_behind ns x s) e ∙ ap (λ (o : Read (Unit {0})). o >>= λ c. Ok ns) h
-
--- all are read, and the form is not closed
-pub numbers_unclosed : (ns : List ℕ) (m : ℕ) (s : Spot) (f : FormFault) → m ≡ zero → bracket_at Close s ≡ Err f → numbers_behind ns m s ≡ Err f
-numbers_unclosed ns m s f e h =
-    ap (λ x. numbers_behind ns x s) e ∙ ap (λ (o : Read (Unit {0})). o >>= λ c. Ok ns) h
+-- a number that is read and set in its place is one of those that are read
+pub numbers_turn : (xs : List ℕ) (i n v : ℕ) (s t : Spot) → i < n → length xs ≡ n → item_at number_in s ≡ Ok (record { value = v; after = t }) → numbers_behind (take (i + 1) (slice_set xs i v)) (n - (i + 1)) t ≡ numbers_behind (take i xs) (n - i) s
+numbers_turn xs i n v s t h e r =
+    ap (λ (ns : List ℕ). numbers_behind ns (n - (i + 1)) t) (take_more_set xs i v (omega arith))
+    ∙ ap (λ (j : ℕ). numbers_behind (take i xs ++ (v ∷ [])) j t) (omega arith)
+    ∙ sym (numbers_more (take i xs) (n - i) s (omega arith) ∙ ap (λ (o : Read ℕ). o >>= λ a. numbers_behind (take i xs ++ (a.value ∷ [])) (n - i - 1) a.after) r)

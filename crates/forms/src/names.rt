@@ -3,7 +3,8 @@ ghost use Rattle.forms.specs.Names.{kind_named, part_named, policy_named};
 
 use crate::form::{PolicyName, StoreKind};
 
-// What a name can mean. A name that means nothing is no fault yet, so this is no TryFrom: its reader knows which it is.
+// What a name can mean. It is no TryFrom: a name that means nothing is no error yet, since only its place in the form
+// says which fault it is.
 pub trait Named: Sized {
     ghost named: { List ℕ → Option Self };
 
@@ -25,7 +26,7 @@ pub enum Part {
 }
 
 impl Part {
-    // Whether the part has this name.
+    // Whether the part has this name. Which part comes is known, so this is a test, and no part is read from a name.
     pub fn is_named(self, name: &[u8]) -> bool
         ensures { result ≡ part_named self name.now }
     {

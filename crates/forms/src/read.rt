@@ -16,7 +16,8 @@ use text::cursor::Cursor;
 use text::line::Line;
 use text::place::check_text;
 
-// The form of a line of a script that has accepted an engine before or not; or what is wrong with the line.
+// The form of a line of a script that has accepted an engine before or not; or what is wrong with the line. The flag
+// comes with no value: reading asks nothing of the engine but whether there is one.
 pub fn read_form(line: Line<'_>, has_engine: bool) -> Result<Form, FormFault>
     ensures { result ≡ form_of (line_view line.entry) has_engine }
 {
