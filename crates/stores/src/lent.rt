@@ -5,11 +5,11 @@ use common::refusal::Refusal;
 
 // A lent store is a store: the one that lies behind the reference.
 impl<S: WordStore> WordStore for &mut S {
-    ghost words = { λ s. S.WordStore.words s.now };
+    ghost words = { λ s. S.words s.now };
 
-    ghost small = { λ s. S.WordStore.small s.now };
+    ghost home = { λ s. behind s.ghost_name (S.home s.now) };
 
-    ghost home = { λ s. behind s.ghost_name (S.WordStore.home s.now) };
+    ghost small = { λ s. S.small s.now };
 
     fn size(&self) -> u32 {
         (**self).size()

@@ -34,7 +34,7 @@ impl WordCell for u16 {
 fn join(high: u16, low: u16) -> u32
     ensures { result ≡ high * 65536 + low }
 {
-    (high as u32) << 16 | low as u32
+    u32::from(high) << 16 | u32::from(low)
 }
 
 // The high half of a word.

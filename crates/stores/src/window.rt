@@ -13,7 +13,6 @@ pub struct Window<S> {
     length: u32,
 }
 
-#[tactic(auto, using(crate::proofs::Parts::in_windows))]
 impl<S: WordStore> Window<S> {
     // The part of the store below that begins at `base` and has at most `length` words.
     pub fn new(below: S, base: u32, length: u32) -> Self
@@ -39,8 +38,9 @@ impl<S: WordStore> Window<S> {
     }
 
     // How many words there are below from the base on.
+    #[tactic(auto, using(crate::proofs::Parts::in_windows))]
     fn room(&self) -> u32
-        ensures { length (part self.now.base self.now.length (S.WordStore.words self.now.below)) ≡ min self.now.length result }
+        ensures { length (part self.now.base self.now.length (S.words self.now.below)) ≡ min self.now.length result }
     {
         self.below.size().saturating_sub(self.base)
     }
@@ -48,11 +48,11 @@ impl<S: WordStore> Window<S> {
 
 #[tactic(auto, using(crate::proofs::Parts::in_windows))]
 impl<S: WordStore> WordStore for Window<S> {
-    ghost words = { λ s. part s.base s.length (S.WordStore.words s.below) };
+    ghost words = { λ s. part s.base s.length (S.words s.below) };
 
-    ghost small = { λ s. part_small s.base s.length (S.WordStore.words s.below) (S.WordStore.small s.below) };
+    ghost home = { λ s. within (S.home s.below) s.base s.length (before s.base (S.words s.below)) (past (s.base + s.length) (S.words s.below)) };
 
-    ghost home = { λ s. within (S.WordStore.home s.below) s.base s.length (before s.base (S.WordStore.words s.below)) (past (s.base + s.length) (S.WordStore.words s.below)) };
+    ghost small = { λ s. part_small s.base s.length (S.words s.below) (S.small s.below) };
 
     fn size(&self) -> u32 {
         self.room().min(self.length)

@@ -40,6 +40,6 @@ pub trait WordStore {
         ensures after { words self.new ≡ slice_set (words self.old) address word }
         ensures lender { home self.new ≡ home self.old };
 
-    // There are at most 65,536 words.
+    // There are never more than 65,536 words.
     ghost small: { (s : Self) → length (words s) ≤ 65536 };
 }
