@@ -26,7 +26,8 @@ impl<E: Copy> Log<E> {
         if self.is_full() {
             return Err(Refusal::LogFull);
         }
-        self.append(entry);
+        self.entries[self.len as usize] = entry;
+        self.len += 1;
         Ok(())
     }
 
@@ -35,15 +36,6 @@ impl<E: Copy> Log<E> {
         ensures { logged self.new ≡ [] }
     {
         self.len = 0;
-    }
-
-    // Writes an entry behind the last one.
-    fn append(&mut self, entry: E)
-        requires { length (logged self.old) < 32 }
-        ensures { logged self.new ≡ logged self.old ++ entry ∷ [] }
-    {
-        self.entries[self.len as usize] = entry;
-        self.len += 1;
     }
 
     // Writes an entry over the one at this place.
