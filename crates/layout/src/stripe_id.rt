@@ -4,7 +4,7 @@ mod number;
 mod picks;
 
 // The number of a stripe: 0 to 63.
-// Beside `ThreadId` and not one generic type with it: a stripe is picked by a mask, with no check, which a type of another crate would need.
+// Beside `ThreadId` and not one generic type with it: a thread is made by a test, a stripe by a mask, and their indexes differ.
 #[derive(Clone, Copy, PartialEq, Eq, PartialOrd, Ord, Debug)]
 pub struct StripeId {
     number: u32,
