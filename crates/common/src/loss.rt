@@ -15,7 +15,7 @@ pub enum Loss {
 }
 
 impl Loss {
-    // The number of the cause, 21 to 24.
+    // The number of the cause, 21 to 24, for what is printed. (`as` takes no variant that carries a number.)
     pub fn cause(self) -> u32
         ensures { result ≡ loss_cause self }
     {

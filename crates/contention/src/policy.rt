@@ -12,8 +12,7 @@ pub struct Points {
 }
 
 // A table that says of each two different threads whether the first beats the second now,
-// the rule by which what the policy is told moves it,
-// and its points.
+// the rule by which what the policy is told moves it, and its points.
 pub trait Policy {
     // The points for a loaded word.
     const LOAD_POINTS: u32;

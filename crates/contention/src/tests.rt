@@ -5,11 +5,8 @@ use crate::policy::Policy;
 use common::thread_id::ThreadId;
 use std::test::Fail;
 
-#[derive(Debug, Drop)]
-struct NoSuchThread;
-
-fn thread(number: u32) -> Result<ThreadId, NoSuchThread> {
-    ThreadId::new(number).ok_or(NoSuchThread)
+fn thread(number: u32) -> Result<ThreadId, &'static str> {
+    ThreadId::new(number).ok_or("no such thread")
 }
 
 #[test]

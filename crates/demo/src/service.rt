@@ -3,7 +3,7 @@ use crate::drive::Drive;
 use crate::names::Word;
 use crate::page;
 use common::refusal::Refusal;
-use layout::lock_word::unpack;
+use layout::lock_word::LockWord;
 use layout::set_up::SetUp;
 use rules::answer::Answer;
 use std::io;
@@ -34,7 +34,7 @@ impl<'a, S, P> Drive<'a, S, P> {
 // Takes bits apart as a lock word, and shows what they say.
 pub fn take_apart(rt: &HostRuntime, bits: u64) -> io::Result<()> {
     let action = format!(in rt.alloc(); "unpack {bits}")?;
-    match unpack(bits) {
+    match LockWord::try_from(bits) {
         Ok(word) => page::line(rt, SERVICE, action.as_str(), Lock(word)),
         Err(refusal) => refuse(rt, action.as_str(), refusal),
     }

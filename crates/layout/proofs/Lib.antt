@@ -1,3 +1,1 @@
-pub mod LockBits
-pub mod Masks
 pub mod Places

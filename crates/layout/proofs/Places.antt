@@ -1,65 +1,52 @@
--- The search for a key, step by step: what a walk over the entries knows when it has passed some of them.
-use Rattle.std.proofs.Common.{◌≡◌, ℕ, ◌+◌, ◌<◌, ◌≤◌, eqb, List, [], ◌∷◌, ◌++◌, length, get_or, take, drop, set, Some, None, sym, ap, ◌∙◌, append_assoc, add-one}
-use Rattle.layout.specs.Lookups.{first_with, replaced, Place}
-use Rattle.std.proofs.lemmas.List.{append-nil, drop_all, drop_more, get_or_default, set_split, take_all, take_more}
+-- The place of the first entry with a key: what it tells of reads and of writes.
+use Rattle.std.proofs.Common.{◌≡◌, ℕ, ◌<◌, zero, suc, eqb, List, [], ◌∷◌, length, Option, Some, None, refl, sym, ap, ◌∙◌, arith}
+use Rattle.layout.specs.Lookups.{first_with, Place}
 use Rattle.std.proofs.lemmas.Bool.{cond-true, cond-false, eq-eqb, ne_eqb}
+use Rattle.std.specs.List.{AllWithin, HoldsAt}
+use Rattle.std.specs.Option.{MatchOption, option_map}
 
--- the first i entries do not have the key
-abbrev pub Passed : {E : Type 0} → (E → ℕ) → ℕ → List E → ℕ → Type 0
-Passed {E} key k es i =
-    (first_with key k (drop i es) ≡ first_with key k es) ×
-    ((new : E) → key new ≡ k → take i es ++ replaced key new (drop i es) ≡ replaced key new es)
+-- whether an entry has the key
+abbrev pub Has : {E : Type 0} → (E → ℕ) → ℕ → E → Type 0
+Has key k e = key e ≡ k
 
--- what is left of a list, by the entry that a read gave
-rest : {E : Type 0} (es : List E) (i : ℕ) (x : E) → i < length es → x ≡ get_or es i x → drop i es ≡ x ∷ drop (i + 1) es
-rest es i x h e = drop_more es i x h ∙ ap (λ y. y ∷ drop (i + 1) es) (sym e)
+abbrev pub Lacks : {E : Type 0} → (E → ℕ) → ℕ → E → Type 0
+Lacks key k e = key e ≡ k → ⊥
 
--- the entry at i has the key
-pub found : {E : Type 0} (key : E → ℕ) (k : ℕ) (es : List E) (i : ℕ) (x : E) → i < length es → x ≡ get_or es i x → key x ≡ k → Passed key k es i → Place key k es (Some i)
-found {E} key k es i x h e same p = (h, first, written)
-  where
-    r : drop i es ≡ x ∷ drop (i + 1) es
-    r = rest es i x h e
-
-    first : (d : E) → Some (get_or es i d) ≡ first_with key k es
-    first d = ap Some (get_or_default es i d x h ∙ sym e) ∙ sym (cond-true (eqb (key x) k) (Some x) (first_with key k (drop (i + 1) es)) (eq-eqb (key x) k same)) ∙ ap (first_with key k) (sym r) ∙ p.0
-
-    written : (new : E) → key new ≡ k → set es i new ≡ replaced key new es
-    written new n =
-        set_split es i new h
-        ∙ ap (λ m. take i es ++ new ∷ drop m es) (sym (add-one i))
-        ∙ ap (λ l. take i es ++ l) (sym (cond-true (eqb (key x) (key new)) (new ∷ drop (i + 1) es) (x ∷ replaced key new (drop (i + 1) es)) (eq-eqb (key x) (key new) (same ∙ sym n))))
-        ∙ ap (λ l. take i es ++ replaced key new l) (sym r)
-        ∙ p.1 new n
-
--- the entry at i does not have the key either
-pub passed_more : {E : Type 0} (key : E → ℕ) (k : ℕ) (es : List E) (i : ℕ) (x : E) → i < length es → x ≡ get_or es i x → (key x ≡ k → ⊥) → Passed key k es i → Passed key k es (i + 1)
-passed_more {E} key k es i x h e other p = (first, written)
-  where
-    r : drop i es ≡ x ∷ drop (i + 1) es
-    r = rest es i x h e
-
-    first : first_with key k (drop (i + 1) es) ≡ first_with key k es
-    first = sym (cond-false (eqb (key x) k) (Some x) (first_with key k (drop (i + 1) es)) (ne_eqb (key x) k other)) ∙ ap (first_with key k) (sym r) ∙ p.0
-
-    written : (new : E) → key new ≡ k → take (i + 1) es ++ replaced key new (drop (i + 1) es) ≡ replaced key new es
-    written new n =
-        ap (λ l. l ++ replaced key new (drop (i + 1) es)) (take_more es i x h ∙ ap (λ y. take i es ++ y ∷ []) (sym e))
-        ∙ append_assoc (take i es) (x ∷ []) (replaced key new (drop (i + 1) es))
-        ∙ ap (λ l. take i es ++ l) (sym (cond-false (eqb (key x) (key new)) (new ∷ drop (i + 1) es) (x ∷ replaced key new (drop (i + 1) es)) (ne_eqb (key x) (key new) (λ q. other (q ∙ n)))))
-        ∙ ap (λ l. take i es ++ replaced key new l) (sym r)
-        ∙ p.1 new n
+-- the first entry with the key stands at i
+at_first : {E : Type 0} (key : E → ℕ) (k : ℕ) (es : List E) (i : ℕ) → i < length es → HoldsAt (Has key k) es i → AllWithin (Lacks key k) es 0 i → Place key k es (Some i)
+at_first key k [] i h here before = absurd (omega arith)
+at_first key k (e ∷ es) zero h here before = (
+  h,
+  (λ d. sym (cond-true (eqb (key e) k) _ _ (eq-eqb (key e) k (here e)))),
+  (λ new n. sym (cond-true (eqb (key e) (key new)) _ _ (eq-eqb (key e) (key new) (here e ∙ sym n)))),
+)
+at_first key k (e ∷ es) (suc i) h here before =
+    let other = before 0 e (omega arith) (omega arith) in
+    let rest = at_first key k es i (omega arith) here (λ j d low high. before (suc j) d (omega arith) (omega arith)) in (
+      h,
+      (λ d. rest.1 d ∙ sym (cond-false (eqb (key e) k) _ _ (ne_eqb (key e) k other))),
+      (λ new n. ap (λ l. e ∷ l) (rest.2 new n) ∙ sym (cond-false (eqb (key e) (key new)) _ _ (ne_eqb (key e) (key new) (λ q. other (q ∙ n))))),
+    )
 
 -- no entry has the key
-pub passed_all : {E : Type 0} (key : E → ℕ) (k : ℕ) (es : List E) (i : ℕ) → length es ≤ i → Passed key k es i → Place key k es None
-passed_all {E} key k es i h p = (first, written)
-  where
-    first : None ≡ first_with key k es
-    first = ap (first_with key k) (sym (drop_all i es h)) ∙ p.0
+nowhere : {E : Type 0} (key : E → ℕ) (k : ℕ) (es : List E) → AllWithin (Lacks key k) es 0 (length es) → Place key k es None
+nowhere key k [] all = (refl, (λ new n. refl))
+nowhere key k (e ∷ es) all =
+    let other = all 0 e (omega arith) (omega arith) in
+    let rest = nowhere key k es (λ j d low high. all (suc j) d (omega arith) (omega arith)) in (
+      rest.0 ∙ sym (cond-false (eqb (key e) k) _ _ (ne_eqb (key e) k other)),
+      (λ new n. ap (λ l. e ∷ l) (rest.1 new n) ∙ sym (cond-false (eqb (key e) (key new)) _ _ (ne_eqb (key e) (key new) (λ q. other (q ∙ n))))),
+    )
 
-    written : (new : E) → key new ≡ k → es ≡ replaced key new es
-    written new n =
-        sym (append-nil es)
-        ∙ ap (λ l. l ++ []) (sym (take_all i es h))
-        ∙ ap (λ l. take i es ++ replaced key new l) (sym (drop_all i es h))
-        ∙ p.1 new n
+-- what a walk that stops at the first entry with the key found
+pub place : {E : Type 0} (key : E → ℕ) (k : ℕ) (es : List E) (r : Option ℕ) → MatchOption r (AllWithin (Lacks key k) es 0 (length es)) (λ i. (i < length es) × HoldsAt (Has key k) es i × AllWithin (Lacks key k) es 0 i) → Place key k es r
+place key k es None all = nowhere key k es all
+place key k es (Some i) f = at_first key k es i f.0 f.1 f.2
+
+-- what a walk that stops at the first entry with the key gives, read by v
+pub first : {E A : Type 0} (v : A → E) (key : E → ℕ) (k : ℕ) (es : List E) (r : Option A) →
+    MatchOption r (AllWithin (Lacks key k) es 0 (length es)) (λ x. Has key k (v x) × (i : ℕ) × (i < length es) × HoldsAt (λ y. y ≡ v x) es i × AllWithin (Lacks key k) es 0 i) →
+    option_map v r ≡ first_with key k es
+first v key k es None all = (nowhere key k es all).0
+first v key k es (Some x) f =
+    ap Some (sym (f.3 (v x))) ∙ (at_first key k es f.1 f.2 (λ d. ap key (f.3 d) ∙ f.0) f.4).1 (v x)

@@ -2,14 +2,14 @@ use crate::keyed::Keyed;
 use crate::stripe_id::StripeId;
 
 // A stripe that a transaction has read, and the version that it saw there.
-#[derive(Clone, Copy)]
+#[derive(Clone, Copy, PartialEq, Eq, Debug)]
 pub struct ReadEntry {
     pub stripe: StripeId,
     pub version: u32,
 }
 
 // A word that a transaction is to write, and where.
-#[derive(Clone, Copy)]
+#[derive(Clone, Copy, PartialEq, Eq, Debug)]
 pub struct WriteEntry {
     pub address: u32,
     pub word: u32,

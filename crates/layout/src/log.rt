@@ -6,6 +6,7 @@ mod edits;
 mod reads;
 
 // A log of at most 32 entries, held in place: the first `len` are logged, the others are blanks.
+// An array and a length, since nothing allocates and a log is copied: an `ArrayVec` is not `Copy`, and clears only what has a default.
 pub struct Log<E> {
     entries: [E; 32],
     len: u32,
@@ -13,6 +14,7 @@ pub struct Log<E> {
     ghost few: { len ≤ 32 },
 }
 
+// By hand: a derive gives no `Clone` to a generic struct with ghost fields.
 impl<E: Copy> Clone for Log<E> {
     ghost is_clone = { λ log copy. copy ≡ log };
 

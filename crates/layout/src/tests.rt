@@ -1,5 +1,5 @@
 use crate::entries::{ReadEntry, WriteEntry};
-use crate::lock_word::{pack, unpack};
+use crate::lock_word::LockWord;
 use crate::log::Log;
 use crate::set_up::SetUp;
 use common::refusal::Refusal;
@@ -51,15 +51,14 @@ fn a_full_log(rt: HostRuntime) -> Result<(), Fail> {
     let mut log = Log::empty_over(BLANK);
     assert!(rt; log.is_empty());
     for address in 0..32 {
-        assert!(rt; log.push(WriteEntry { address, word: 1 }));
+        log.push(WriteEntry { address, word: 1 })?;
     }
     assert!(rt; log.is_full());
-    assert!(rt;
-        !log.push(WriteEntry {
-            address: 40,
-            word: 1,
-        })
-    );
+    let past = WriteEntry {
+        address: 40,
+        word: 1,
+    };
+    assert_eq!(rt; log.push(past).err(), Some(Refusal::LogFull));
     assert_eq!(rt; log.len(), 32);
     assert!(rt; log.find(40).is_none());
     log.replace(WriteEntry {
@@ -73,41 +72,39 @@ fn a_full_log(rt: HostRuntime) -> Result<(), Fail> {
     Ok(())
 }
 
-// The version that was found, or 0.
-fn version(found: Option<ReadEntry>) -> u32 {
-    match found {
-        Some(entry) => entry.version,
-        None => 0,
-    }
-}
-
 #[test]
 fn the_first_match_counts(rt: HostRuntime) -> Result<(), Fail> {
     let stripe = SetUp::new(1, 64, 0, 1)?.stripe_of(5);
     let mut log = Log::empty_over(ReadEntry { stripe, version: 0 });
-    let _ = log.push(ReadEntry { stripe, version: 1 });
-    let _ = log.push(ReadEntry { stripe, version: 2 });
+    log.push(ReadEntry { stripe, version: 1 })?;
+    log.push(ReadEntry { stripe, version: 2 })?;
     log.replace(ReadEntry { stripe, version: 3 });
-    assert_eq!(rt; version(log.find(5)), 3);
-    assert_eq!(rt; version(log.get(1)), 2);
+    assert_eq!(rt; log.find(5), Some(ReadEntry { stripe, version: 3 }));
+    assert_eq!(rt; log.get(1), Some(ReadEntry { stripe, version: 2 }));
     assert!(rt; log.find(6).is_none());
     Ok(())
 }
 
+// The bits of a lock word.
+fn bits(version: u32, owner: u32) -> Result<u64, Refusal> {
+    LockWord { version, owner }.try_into()
+}
+
 #[test]
 fn lock_words(rt: HostRuntime) -> Result<(), Fail> {
-    assert_eq!(rt; pack(0, 2)?, 8_589_934_593);
-    assert_eq!(rt; pack(1, 0)?, 2);
-    let word = unpack(8_589_934_593)?;
-    assert_eq!(rt; word.owner, 2);
-    assert_eq!(rt; word.version, 0);
-    assert_eq!(rt; pack(TOP, 8)?, 0x8_ffff_ffff);
-    assert_eq!(rt; pack(TOP + 1, 0).err(), Some(Refusal::LockWord));
-    assert_eq!(rt; pack(0, 9).err(), Some(Refusal::LockWord));
-    assert_eq!(rt; unpack(1).err(), Some(Refusal::LockWord));
-    assert_eq!(rt; unpack(1 << 32).err(), Some(Refusal::LockWord));
-    assert_eq!(rt; unpack(9 << 32 | 1).err(), Some(Refusal::LockWord));
-    assert_eq!(rt; unpack(1 << 40 | 1).err(), Some(Refusal::LockWord));
+    assert_eq!(rt; bits(0, 2)?, 8_589_934_593);
+    assert_eq!(rt; bits(1, 0)?, 2);
+    let word = LockWord {
+        version: 0,
+        owner: 2,
+    };
+    assert_eq!(rt; LockWord::try_from(8_589_934_593)?, word);
+    assert_eq!(rt; bits(TOP, 8)?, 0x8_ffff_ffff);
+    assert_eq!(rt; bits(TOP + 1, 0).err(), Some(Refusal::LockWord));
+    assert_eq!(rt; bits(0, 9).err(), Some(Refusal::LockWord));
+    for no_word in [1, 1 << 32, 9 << 32 | 1, 1 << 40 | 1] {
+        assert_eq!(rt; LockWord::try_from(no_word).err(), Some(Refusal::LockWord));
+    }
     Ok(())
 }
 

@@ -8,10 +8,9 @@ impl ThreadId {
     pub fn new(number: u32) -> Option<ThreadId>
         ensures { numbered result ≡ thread_number number }
     {
-        if 1 <= number && number <= 8 {
-            Some(ThreadId { number })
-        } else {
-            None
+        match number {
+            1..=8 => Some(ThreadId { number }),
+            _ => None,
         }
     }
 

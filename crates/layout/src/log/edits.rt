@@ -1,10 +1,11 @@
-ghost use Rattle.std.specs.Prelude.{◌≡◌, ◌<◌, ltb, [], ◌∷◌, ◌++◌, length, if◌then◌else◌, nat_lt, slice_set};
-ghost use Rattle.layout.specs.Logs.{logged};
+ghost use Rattle.std.specs.Prelude.{◌≡◌, ◌<◌, ltb, [], ◌∷◌, ◌++◌, length, if◌then◌else◌, slice_set};
+ghost use Rattle.layout.specs.Logs.{logged, room_or_refusal};
 ghost use Rattle.layout.specs.Lookups.{replaced};
 
 use super::Log;
 use crate::keyed::Keyed;
 use crate::lookup::position;
+use common::refusal::Refusal;
 
 impl<E: Copy> Log<E> {
     // An empty log: the blank stands in the places that are not used yet.
@@ -17,16 +18,17 @@ impl<E: Copy> Log<E> {
         }
     }
 
-    // Logs one more entry where there is room; says whether there was.
-    pub fn push(&mut self, entry: E) -> bool
-        ensures room { result ≡ nat_lt (length (logged self.old)) 32 }
+    // Logs one more entry, or says that the log is full.
+    pub fn push(&mut self, entry: E) -> Result<(), Refusal>
+        ensures room { result ≡ room_or_refusal (length (logged self.old)) }
         ensures entries { logged self.new ≡ (if ltb (length (logged self.old)) 32 then logged self.old ++ entry ∷ [] else logged self.old) }
     {
         if self.is_full() {
-            return false;
+            return Err(Refusal::LogFull);
         }
-        self.append(entry);
-        true
+        self.entries[self.len as usize] = entry;
+        self.len += 1;
+        Ok(())
     }
 
     // Forgets all entries.
@@ -34,15 +36,6 @@ impl<E: Copy> Log<E> {
         ensures { logged self.new ≡ [] }
     {
         self.len = 0;
-    }
-
-    // Writes an entry behind the last one.
-    fn append(&mut self, entry: E)
-        requires { length (logged self.old) < 32 }
-        ensures { logged self.new ≡ logged self.old ++ entry ∷ [] }
-    {
-        self.entries[self.len as usize] = entry;
-        self.len += 1;
     }
 
     // Writes an entry over the one at this place.

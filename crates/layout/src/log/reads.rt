@@ -5,7 +5,7 @@ ghost use Rattle.std.specs.List.{slice_get};
 
 use super::Log;
 use crate::keyed::Keyed;
-use crate::lookup::{entry_at, find};
+use crate::lookup::find;
 
 impl<E: Copy> Log<E> {
     // The logged entries, the oldest first.
@@ -43,7 +43,7 @@ impl<E: Copy> Log<E> {
         ensures entry { result ≡ slice_get (logged self.now) i }
         ensures bound { OnSome result (i < length (logged self.now)) }
     {
-        entry_at(self.entries(), i as usize)
+        self.entries().get(i as usize).copied()
     }
 }
 

@@ -11,7 +11,7 @@ impl SetUp {
     pub fn new(threads: u32, stripes: u32, shift: u32, limit: u32) -> Result<SetUp, Refusal>
         ensures { numbers_of result ≡ set_up_or_refusal threads stripes shift limit }
     {
-        if threads < 1 || threads > 8 {
+        if !(1..=8).contains(&threads) {
             return Err(Refusal::ThreadCount);
         }
         if !is_stripe_count(stripes) {
@@ -20,7 +20,7 @@ impl SetUp {
         if shift > 8 {
             return Err(Refusal::Shift);
         }
-        if limit < 1 || limit > 0x7fff_ffff {
+        if !(1..=0x7fff_ffff).contains(&limit) {
             return Err(Refusal::ClockLimit);
         }
         Ok(SetUp {

@@ -10,7 +10,9 @@ impl SetUp {
     pub fn stripe_of(self, address: u32) -> StripeId
         ensures { result.number ≡ stripe_of self address }
     {
-        self.picked_by(address >> self.shift())
+        StripeId {
+            number: address >> self.shift() & (self.stripes() - 1),
+        }
     }
 
     // The stripe of this number, if the set-up has it.
@@ -21,15 +23,6 @@ impl SetUp {
             Ok(StripeId { number })
         } else {
             Err(Refusal::NoSuchPlace)
-        }
-    }
-
-    // The stripe that the low bits of this number pick.
-    fn picked_by(self, bits: u32) -> StripeId
-        ensures { result.number ≡ bits % self.stripes }
-    {
-        StripeId {
-            number: bits & (self.stripes() - 1),
         }
     }
 }

@@ -4,7 +4,7 @@ ghost use Rattle.rules.specs.Peek.{peek};
 
 use crate::memory::Memory;
 use common::refusal::Refusal;
-use layout::lock_word::pack;
+use layout::lock_word::LockWord;
 
 impl<S, P> Memory<S, P> {
     // The lock word of a stripe: its version and its owner.
@@ -13,6 +13,10 @@ impl<S, P> Memory<S, P> {
     {
         let at = self.engine.set_up.stripe(stripe)?;
         let stripe = self.engine.stripes[at];
-        pack(stripe.version, stripe.owner_number())
+        let word = LockWord {
+            version: stripe.version,
+            owner: stripe.owner_number(),
+        };
+        word.try_into()
     }
 }

@@ -56,14 +56,14 @@ impl Thread {
     pub(crate) fn note_read(&mut self, entry: ReadEntry)
         ensures { thread_view self.new ≡ with_reads (thread_view self.old) (grown (thread_view self.old).reads (read_mark entry)) }
     {
-        self.reads.push(entry);
+        let _ = self.reads.push(entry);
     }
 
     // Notes a word that is to be written.
     pub(crate) fn note_write(&mut self, entry: WriteEntry)
         ensures { thread_view self.new ≡ with_writes (thread_view self.old) (grown (thread_view self.old).writes entry) }
     {
-        self.writes.push(entry);
+        let _ = self.writes.push(entry);
     }
 
     // Replaces the word that is to be written at a logged address.

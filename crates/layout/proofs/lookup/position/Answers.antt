@@ -1,17 +1,11 @@
-use Rattle.std.proofs.Common.{sym, ◌∙◌}
-use Rattle.layout.proofs.Places.{found, passed_more, passed_all}
+use Rattle.std.proofs.Common.{rules}
+use Rattle.std.proofs.lemmas.Iterator.{IsFirst-from_position, YieldsList-from_slice}
+use borrow.Author.Tests.{tests}
+use Rattle.layout.proofs.Places.{Has, Lacks, place}
 use Rattle.layout.proofs.lookup.position.Goals as goal
-
-pub returns-then-key : goal.returns-then-key
-returns-then-key g c =
-    found g.E.Keyed.key c.args.key c.args.entries.now c.loop-i.i c.index-entries-i.result
-    c.loop-i-test.true c.index-entries-i.is (sym c.key.ensures ∙ c.if-key.true) c.loop-i.invariant
-
-pub loop-i-preserved : goal.loop-i-preserved
-loop-i-preserved g c =
-    passed_more g.E.Keyed.key c.args.key c.args.entries.now c.loop-i.i c.index-entries-i.result
-    c.loop-i-test.true c.index-entries-i.is (λ e. c.if-key.false (c.key.ensures ∙ e)) c.loop-i.invariant
 
 pub returns : goal.returns
 returns g c =
-    passed_all g.E.Keyed.key c.args.key c.args.entries.now c.loop-i.i c.loop-i-test.false c.loop-i.invariant
+    place g.E.Keyed.key c.args.key c.args.entries.now c.position.result
+    (IsFirst-from_position _ _ c.position.result (Has g.E.Keyed.key c.args.key) (Lacks g.E.Keyed.key c.args.key) c.position.ensures.ran
+    (YieldsList-from_slice c.args.entries.now cc) (λ x q k. search (rules, tests)) (λ x q k. search (rules, tests)))
