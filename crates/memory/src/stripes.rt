@@ -1,5 +1,3 @@
-ghost use Rattle.std.specs.Prelude.{◌≡◌, length};
-
 use common::thread_id::ThreadId;
 
 mod table;
@@ -15,5 +13,4 @@ pub struct Stripe {
 #[derive(Clone, Copy)]
 pub struct Stripes {
     all: [Stripe; 64],
-    ghost count: { length all ≡ 64 },
 }

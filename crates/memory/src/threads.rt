@@ -1,5 +1,3 @@
-ghost use Rattle.std.specs.Prelude.{◌≡◌, length};
-
 use layout::entries::{ReadEntry, WriteEntry};
 use layout::log::Log;
 use rules::phase::Phase;
@@ -20,5 +18,4 @@ pub struct Thread {
 #[derive(Drop)]
 pub struct Threads {
     all: [Thread; 8],
-    ghost count: { length all ≡ 8 },
 }
