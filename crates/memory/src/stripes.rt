@@ -9,7 +9,7 @@ pub struct Stripe {
     pub owner: Option<ThreadId>,
 }
 
-// All stripes, by number.
+// All stripes, by number. They lie in place, since the engine never allocates.
 #[derive(Clone, Copy)]
 pub struct Stripes {
     all: [Stripe; 64],

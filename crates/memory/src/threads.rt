@@ -14,7 +14,7 @@ pub struct Thread {
     pub writes: Log<WriteEntry>,
 }
 
-// All threads, by number.
+// All threads, by number. They lie in place, since the engine never allocates.
 #[derive(Drop)]
 pub struct Threads {
     all: [Thread; 8],
