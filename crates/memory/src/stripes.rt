@@ -9,7 +9,8 @@ pub struct Stripe {
     pub owner: Option<ThreadId>,
 }
 
-// All stripes, by number. They lie in place, since the engine never allocates.
+// All stripes, by number. They lie in place, since the engine never allocates. They have no model: contracts see them as
+// a table of the rules, which is a function, and a model's value cannot be one.
 #[derive(Clone, Copy)]
 pub struct Stripes {
     all: [Stripe; 64],

@@ -14,7 +14,8 @@ pub struct Thread {
     pub writes: Log<WriteEntry>,
 }
 
-// All threads, by number. They lie in place, since the engine never allocates.
+// All threads, by number. They lie in place, since the engine never allocates. They have no model, as the stripes have
+// none.
 #[derive(Drop)]
 pub struct Threads {
     all: [Thread; 8],
