@@ -7,7 +7,8 @@ mod conflicts;
 mod edits;
 mod roll;
 
-// The set-up, the clock, the roll mark, and the tables of stripes and threads.
+// The set-up, the clock, the roll mark, and the tables of stripes and threads. The mark stands beside the clock, and not
+// in its place: under the mark the clock is still read, by loads and by readers' seals.
 #[derive(Drop)]
 pub struct Engine {
     pub(crate) set_up: SetUp,

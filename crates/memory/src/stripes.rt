@@ -1,5 +1,3 @@
-ghost use Rattle.std.specs.Prelude.{◌≡◌, length};
-
 use common::thread_id::ThreadId;
 
 mod table;
@@ -11,9 +9,9 @@ pub struct Stripe {
     pub owner: Option<ThreadId>,
 }
 
-// All stripes, by number.
+// All stripes, by number. They lie in place, since the engine never allocates. They have no model: contracts see them as
+// a table of the rules, which is a function, and a model's value cannot be one.
 #[derive(Clone, Copy)]
 pub struct Stripes {
     all: [Stripe; 64],
-    ghost count: { length all ≡ 64 },
 }

@@ -1,5 +1,3 @@
-ghost use Rattle.std.specs.Prelude.{◌≡◌, length};
-
 use layout::entries::{ReadEntry, WriteEntry};
 use layout::log::Log;
 use rules::phase::Phase;
@@ -16,9 +14,9 @@ pub struct Thread {
     pub writes: Log<WriteEntry>,
 }
 
-// All threads, by number.
+// All threads, by number. They lie in place, since the engine never allocates. They have no model, as the stripes have
+// none.
 #[derive(Drop)]
 pub struct Threads {
     all: [Thread; 8],
-    ghost count: { length all ≡ 8 },
 }

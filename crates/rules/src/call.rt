@@ -1,4 +1,5 @@
-// A call as a value: which call it is, and what it is given.
+// A call as a value: which call it is, and what it is given. The thread is written in six variants and not beside the
+// enum, since a roll has none.
 #[derive(Clone, Copy, PartialEq, Eq, Debug)]
 pub enum Call {
     // A transaction of this thread begins.

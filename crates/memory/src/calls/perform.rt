@@ -8,7 +8,8 @@ use rules::call::Call;
 use stores::word_store::WordStore;
 
 impl<S: WordStore, P: Policy> Memory<S, P> {
-    // Makes a call that is given as a value, and gives its answer as one.
+    // Makes a call that is given as a value, and gives its answer as one. The call is an enum and no closure, so that
+    // a program can keep it, compare it and write it down.
     pub fn perform(&mut self, call: Call) -> Answer
         ensures { Did S.words S.home P.moved self.old self.new result (performed (P.table self.old.policy) (world S.words self.old) call) }
     {

@@ -11,7 +11,7 @@ use layout::stripe_id::StripeId;
 use std::ops::Index;
 
 impl Stripe {
-    // The number of its owner, 0 for none.
+    // The number of its owner, 0 for none, as a lock word has it.
     pub(crate) fn owner_number(self) -> u32
         ensures { result ≡ owner_number self.owner }
     {
@@ -76,7 +76,8 @@ impl Stripes {
         self.all[stripe.index()] = to;
     }
 
-    // Releases each stripe of this thread.
+    // Releases each stripe of this thread. This walk and the next have a line each of their own; one that took a closure
+    // would have to say of every stripe what the closure left there, in more words than both.
     #[tactic(auto, using(crate::proofs::Sweeps::swept_all, crate::proofs::Tables::freed_none))]
     pub(crate) fn release(&mut self, thread: ThreadId, version: Option<u32>)
         ensures { stripe_table self.new.all ≡ each (freed thread.number version) (stripe_table self.old.all) }

@@ -40,7 +40,8 @@ impl Threads {
         &self.all[..last as usize]
     }
 
-    // Edits the thread of this number in its place, so that it is not copied.
+    // Edits the thread of this number in its place, so that it is not copied. What is done to it comes as a closure: a
+    // `&mut` to an element of an array that is handed out has no proof of its clause yet.
     pub(crate) fn edit<F: FnOnce(&mut Thread)>(&mut self, thread: ThreadId, edit: F)
         requires { F.IsAlwaysCallable edit }
         ensures { Edited (λ before after. FnOnceReturnsAtMut F.FnOnce edit before tt after) self.old.all self.new.all thread.number }

@@ -4,4 +4,4 @@ use Rattle.memory.proofs.stripes.Stripes.release.Goals as goal
 
 pub loop-stripe-preserved : goal.loop-stripe-preserved
 loop-stripe-preserved c =
-    swept_more _ _ _ _ c.args.self.now.count c.stripe-item.result _ (omega arith) c.release.ensures c.loop-stripe.invariant
+    swept_more _ _ _ _ (omega arith) c.stripe-item.result _ (omega arith) c.release.ensures c.loop-stripe.invariant
