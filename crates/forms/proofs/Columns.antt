@@ -1,25 +1,26 @@
 -- A fault names a column of its line, or one past its end.
-use Rattle.std.proofs.Common.{◌≡◌, ℕ, ◌+◌, ◌≤◌, Bool, true, false, cond, eqb, List, [], ◌∷◌, length, Some, None, Ok, Err, Option, Result, refl, ap, subst, arith}
-use Rattle.forms.specs.Engines.{names_part, part_name, part_opened, part_begun, part_closed, part_read, number_behind, number_part, kind_behind, kind_part, policy_behind, policy_part, engine_closed, engine_policy, engine_kind, engine_words, engine_limit, engine_shift, engine_stripes, engine_threads, engine_at}
+use Rattle.std.proofs.Common.{◌≡◌, ℕ, zero, suc, ◌+◌, ◌≤◌, Bool, true, false, cond, eqb, List, [], ◌∷◌, ◌++◌, length, Some, None, Ok, Err, Option, Result, refl, ap, subst, arith}
+use Rattle.forms.specs.Engines.{names_part, part_name, part_begun, part_at, engine_at}
 use Rattle.forms.specs.Faults.{fault_column}
-use Rattle.forms.specs.Forms.{made_of, call_at, items_at, form_due, form_headed, form_read, form_of}
-use Rattle.forms.specs.Heads.{head_in, head_of, head_at, is_due}
-use Rattle.forms.specs.Items.{opened, open_at, closed, close_at, item_of, number_in, kind_in, policy_in, number_at, kind_at, policy_at}
-use Rattle.forms.specs.Numbers.{one_closed, one_read, one_number, two_rest, two_read, two_numbers, three_rest, three_read, three_numbers}
-use Rattle.forms.specs.Views.{Reading}
-use Rattle.forms.specs.declared.form.PolicyName.{PolicyName}
-use Rattle.forms.specs.declared.form.StoreKind.{StoreKind}
+use Rattle.forms.specs.Forms.{made_of, call_at, items_at, form_due, form_read, form_of}
+use Rattle.forms.specs.Heads.{head_named, head_of, head_at, is_due}
+use Rattle.forms.specs.Items.{bracket_at, bracket_in, item_of, item_at, name_in, number_in}
+use Rattle.forms.specs.Names.{kind_named, policy_named}
+use Rattle.forms.specs.Numbers.{numbers_behind, numbers_at}
+use Rattle.forms.specs.Views.{Reading, ◌>>=◌}
 use Rattle.forms.specs.declared.form_fault.FormFault.{FormFault}
-use Rattle.forms.specs.declared.head.CallName.{CallName}
-use Rattle.forms.specs.declared.head.CallName.TheVariants.{Begin, Load, Store, Seal, Drain, Back, Roll}
 use Rattle.forms.specs.declared.head.Head.{Head}
-use Rattle.forms.specs.declared.head.Head.TheVariants.{Engine, Call, Peek}
+use Rattle.forms.specs.declared.head.Head.TheVariants.{Engine, Call, Roll, Peek}
+use Rattle.forms.specs.declared.item.Bracket.{Bracket}
+use Rattle.forms.specs.declared.item.Bracket.TheVariants.{Open, Close}
 use Rattle.forms.specs.declared.names.Part.{Part}
 use Rattle.forms.specs.declared.names.Part.TheVariants.{Threads, Stripes, Shift, Limit, Words, Kind, Policy}
+use Rattle.rules.specs.declared.kind.Kind.{Kind as CallKind}
+use Rattle.rules.specs.declared.kind.Kind.TheVariants.{Begin, Load, Store, Seal, Drain, Back}
 use Rattle.text.specs.Bytes.{is_digit}
 use Rattle.text.specs.Lines.{Line}
 use Rattle.text.specs.Places.{next}
-use Rattle.text.specs.Tokens.{Token, opening, closing, name, number, end, Spot, Taken, column_of, from_rest, taken, token_at, unspaced}
+use Rattle.text.specs.Tokens.{Token, Spot, Taken, column_of, from_rest, taken, token_at, unspaced}
 use Rattle.text.specs.Verdicts.{is_over, reached, text_verdict}
 use Rattle.text.specs.declared.place.Place.{Place}
 use Rattle.text.specs.declared.place.Place.TheVariants.{Start}
@@ -66,178 +67,67 @@ token_of_line : (n : ℕ) (s : Spot) → InLine n s → OfLine n (token_at s)
 unfolding InLine token_at
 token_of_line n s h = subst (λ m. OfLine m (token_at s)) h (taken_of_line (from_rest s (unspaced s.rest)) (unspaced s.rest))
 
+-- what is read step by step stays within the line, if each step does
+then_within : {A B : Type 0} (n : ℕ) (P : A → Type 0) (Q : B → Type 0) (r : Result A FormFault) (next : A → Result B FormFault) → Within n P r → ((a : A) → P a → Within n Q (next a)) → Within n Q (r >>= next)
+unfolding Within
+then_within n P Q (Err f) next h k = h
+then_within n P Q (Ok a) next h k = k a h
+
 -- brackets and items
 
-opened_within : (n : ℕ) (t : Token) (s : Spot) → column_of t ≤ n + 1 → InLine n s → Within n (InLine n) (opened t s)
-unfolding Within
-opened_within n (opening c) s h k = k
-opened_within n (closing c) s h k = h
-opened_within n (name c w) s h k = h
-opened_within n (number c w) s h k = h
-opened_within n (end c) s h k = h
-
-open_within : (n : ℕ) (s : Spot) → InLine n s → Within n (InLine n) (open_at s)
-open_within n s h = let t = token_of_line n s h in opened_within n (token_at s).token (token_at s).after t.column t.after
-
-closed_within : (n : ℕ) (t : Token) (s : Spot) → column_of t ≤ n + 1 → InLine n s → Within n (InLine n) (closed t s)
-unfolding Within
-closed_within n (opening c) s h k = h
-closed_within n (closing c) s h k = k
-closed_within n (name c w) s h k = h
-closed_within n (number c w) s h k = h
-closed_within n (end c) s h k = h
-
-close_within : (n : ℕ) (s : Spot) → InLine n s → Within n (InLine n) (close_at s)
-close_within n s h = let t = token_of_line n s h in closed_within n (token_at s).token (token_at s).after t.column t.after
-
-item_within : {A : Type 0} (n : ℕ) (t : Taken) (o : Option A) → OfLine n t → Within n (EndsIn n) (item_of t o)
+fitting_within : {A : Type 0} (n : ℕ) (t : Taken) (o : Option A) → OfLine n t → Within n (EndsIn n) (item_of t o)
 unfolding Within EndsIn
-item_within n t (Some a) h = h.after
-item_within n t None h = h.column
+fitting_within n t (Some a) h = h.after
+fitting_within n t None h = h.column
 
-number_within : (n : ℕ) (s : Spot) → InLine n s → Within n (EndsIn n) (number_at s)
-number_within n s h = item_within n (token_at s) (number_in (token_at s).token) (token_of_line n s h)
+item_within : {A : Type 0} (n : ℕ) (in_token : Token → Option A) (s : Spot) → InLine n s → Within n (EndsIn n) (item_at in_token s)
+item_within n in_token s h = fitting_within n (token_at s) (in_token (token_at s).token) (token_of_line n s h)
 
-kind_within : (n : ℕ) (s : Spot) → InLine n s → Within n (EndsIn n) (kind_at s)
-kind_within n s h = item_within n (token_at s) (kind_in (token_at s).token) (token_of_line n s h)
-
-policy_within : (n : ℕ) (s : Spot) → InLine n s → Within n (EndsIn n) (policy_at s)
-policy_within n s h = item_within n (token_at s) (policy_in (token_at s).token) (token_of_line n s h)
+bracket_within : (n : ℕ) (b : Bracket) (s : Spot) → InLine n s → Within n (EndsIn n) (bracket_at b s)
+bracket_within n b s h = item_within n (bracket_in b) s h
 
 -- numbers to the end of a form
 
-one_closed_within : (n v : ℕ) (r : Result Spot FormFault) → Within n (InLine n) r → Within n Any (one_closed v r)
-unfolding Within Any
-one_closed_within n v (Err f) h = h
-one_closed_within n v (Ok s) h = tt
+behind_within : (n : ℕ) (ns : List ℕ) (k : ℕ) (s : Spot) → InLine n s → Within n Any (numbers_behind ns k s)
+unfolding Within EndsIn Any
+behind_within n ns zero s h =
+    then_within n (EndsIn n) Any (bracket_at Close s) _ (bracket_within n Close s h) (λ c e. tt)
+behind_within n ns (suc k) s h =
+    then_within n (EndsIn n) Any (item_at number_in s) _ (item_within n number_in s h) (λ r e. behind_within n (ns ++ (r.value ∷ [])) k r.after e)
 
-one_read_within : (n : ℕ) (r : Result (Reading ℕ) FormFault) → Within n (EndsIn n) r → Within n Any (one_read r)
+numbers_within : (n k : ℕ) (s : Spot) → InLine n s → Within n Any (numbers_at k s)
+numbers_within n k s h = behind_within n [] k s h
+
+-- parts of an engine form, and the form
+
+name_within : (n : ℕ) (t : Taken) (b : Bool) → OfLine n t → Within n (EndsIn n) (part_name t b)
 unfolding Within EndsIn
-one_read_within n (Err f) h = h
-one_read_within n (Ok r) h = one_closed_within n r.value (close_at r.after) (close_within n r.after h)
+name_within n t true h = h.after
+name_within n t false h = h.column
 
-one_within : (n : ℕ) (s : Spot) → InLine n s → Within n Any (one_number s)
-one_within n s h = one_read_within n (number_at s) (number_within n s h)
+begun_within : (n : ℕ) (p : Part) (s : Spot) → InLine n s → Within n (EndsIn n) (part_begun p s)
+unfolding EndsIn
+begun_within n p s h =
+    then_within n (EndsIn n) (EndsIn n) (bracket_at Open s) _ (bracket_within n Open s h) (λ b e. name_within n (token_at b.after) (names_part p (token_at b.after).token) (token_of_line n b.after e))
 
-two_rest_within : (n v : ℕ) (r : Result ℕ FormFault) → Within n Any r → Within n Any (two_rest v r)
-unfolding Within Any
-two_rest_within n v (Err f) h = h
-two_rest_within n v (Ok m) h = tt
-
-two_read_within : (n : ℕ) (r : Result (Reading ℕ) FormFault) → Within n (EndsIn n) r → Within n Any (two_read r)
+part_within : {A : Type 0} (n : ℕ) (in_token : Token → Option A) (p : Part) (s : Spot) → InLine n s → Within n (EndsIn n) (part_at in_token p s)
 unfolding Within EndsIn
-two_read_within n (Err f) h = h
-two_read_within n (Ok r) h = two_rest_within n r.value (one_number r.after) (one_within n r.after h)
-
-two_within : (n : ℕ) (s : Spot) → InLine n s → Within n Any (two_numbers s)
-two_within n s h = two_read_within n (number_at s) (number_within n s h)
-
-three_rest_within : (n v : ℕ) (r : Result (ℕ × ℕ) FormFault) → Within n Any r → Within n Any (three_rest v r)
-unfolding Within Any
-three_rest_within n v (Err f) h = h
-three_rest_within n v (Ok m) h = tt
-
-three_read_within : (n : ℕ) (r : Result (Reading ℕ) FormFault) → Within n (EndsIn n) r → Within n Any (three_read r)
-unfolding Within EndsIn
-three_read_within n (Err f) h = h
-three_read_within n (Ok r) h = three_rest_within n r.value (two_numbers r.after) (two_within n r.after h)
-
-three_within : (n : ℕ) (s : Spot) → InLine n s → Within n Any (three_numbers s)
-three_within n s h = three_read_within n (number_at s) (number_within n s h)
-
--- parts of an engine form
-
-part_name_within : (n : ℕ) (t : Taken) (b : Bool) → OfLine n t → Within n (InLine n) (part_name t b)
-unfolding Within
-part_name_within n t true h = h.after
-part_name_within n t false h = h.column
-
-part_opened_within : (n : ℕ) (p : Part) (r : Result Spot FormFault) → Within n (InLine n) r → Within n (InLine n) (part_opened p r)
-unfolding Within
-part_opened_within n p (Err f) h = h
-part_opened_within n p (Ok s) h = part_name_within n (token_at s) (names_part p (token_at s).token) (token_of_line n s h)
-
-part_begun_within : (n : ℕ) (p : Part) (s : Spot) → InLine n s → Within n (InLine n) (part_begun p s)
-part_begun_within n p s h = part_opened_within n p (open_at s) (open_within n s h)
-
-part_closed_within : {A : Type 0} (n : ℕ) (a : A) (r : Result Spot FormFault) → Within n (InLine n) r → Within n (EndsIn n) (part_closed a r)
-unfolding Within EndsIn
-part_closed_within n a (Err f) h = h
-part_closed_within n a (Ok s) h = h
-
-part_read_within : {A : Type 0} (n : ℕ) (r : Result (Reading A) FormFault) → Within n (EndsIn n) r → Within n (EndsIn n) (part_read r)
-unfolding Within EndsIn
-part_read_within n (Err f) h = h
-part_read_within n (Ok r) h = part_closed_within n r.value (close_at r.after) (close_within n r.after h)
-
-number_behind_within : (n : ℕ) (r : Result Spot FormFault) → Within n (InLine n) r → Within n (EndsIn n) (number_behind r)
-unfolding Within
-number_behind_within n (Err f) h = h
-number_behind_within n (Ok s) h = part_read_within n (number_at s) (number_within n s h)
-
-number_part_within : (n : ℕ) (p : Part) (s : Spot) → InLine n s → Within n (EndsIn n) (number_part p s)
-number_part_within n p s h = number_behind_within n (part_begun p s) (part_begun_within n p s h)
-
-kind_behind_within : (n : ℕ) (r : Result Spot FormFault) → Within n (InLine n) r → Within n (EndsIn n) (kind_behind r)
-unfolding Within
-kind_behind_within n (Err f) h = h
-kind_behind_within n (Ok s) h = part_read_within n (kind_at s) (kind_within n s h)
-
-kind_part_within : (n : ℕ) (s : Spot) → InLine n s → Within n (EndsIn n) (kind_part s)
-kind_part_within n s h = kind_behind_within n (part_begun Kind s) (part_begun_within n Kind s h)
-
-policy_behind_within : (n : ℕ) (r : Result Spot FormFault) → Within n (InLine n) r → Within n (EndsIn n) (policy_behind r)
-unfolding Within
-policy_behind_within n (Err f) h = h
-policy_behind_within n (Ok s) h = part_read_within n (policy_at s) (policy_within n s h)
-
-policy_part_within : (n : ℕ) (s : Spot) → InLine n s → Within n (EndsIn n) (policy_part s)
-policy_part_within n s h = policy_behind_within n (part_begun Policy s) (part_begun_within n Policy s h)
-
--- the engine form, from its last part to its first
-
-engine_closed_within : (n t s h l w : ℕ) (k : StoreKind) (p : PolicyName) (r : Result Spot FormFault) → Within n (InLine n) r → Within n Any (engine_closed t s h l w k p r)
-unfolding Within Any
-engine_closed_within n t s h l w k p (Err f) e = e
-engine_closed_within n t s h l w k p (Ok r) e = tt
-
-engine_policy_within : (n t s h l w : ℕ) (k : StoreKind) (r : Result (Reading PolicyName) FormFault) → Within n (EndsIn n) r → Within n Any (engine_policy t s h l w k r)
-unfolding Within EndsIn
-engine_policy_within n t s h l w k (Err f) e = e
-engine_policy_within n t s h l w k (Ok r) e = engine_closed_within n t s h l w k r.value (close_at r.after) (close_within n r.after e)
-
-engine_kind_within : (n t s h l w : ℕ) (r : Result (Reading StoreKind) FormFault) → Within n (EndsIn n) r → Within n Any (engine_kind t s h l w r)
-unfolding Within EndsIn
-engine_kind_within n t s h l w (Err f) e = e
-engine_kind_within n t s h l w (Ok r) e = engine_policy_within n t s h l w r.value (policy_part r.after) (policy_part_within n r.after e)
-
-engine_words_within : (n t s h l : ℕ) (r : Result (Reading ℕ) FormFault) → Within n (EndsIn n) r → Within n Any (engine_words t s h l r)
-unfolding Within EndsIn
-engine_words_within n t s h l (Err f) e = e
-engine_words_within n t s h l (Ok r) e = engine_kind_within n t s h l r.value (kind_part r.after) (kind_part_within n r.after e)
-
-engine_limit_within : (n t s h : ℕ) (r : Result (Reading ℕ) FormFault) → Within n (EndsIn n) r → Within n Any (engine_limit t s h r)
-unfolding Within EndsIn
-engine_limit_within n t s h (Err f) e = e
-engine_limit_within n t s h (Ok r) e = engine_words_within n t s h r.value (number_part Words r.after) (number_part_within n Words r.after e)
-
-engine_shift_within : (n t s : ℕ) (r : Result (Reading ℕ) FormFault) → Within n (EndsIn n) r → Within n Any (engine_shift t s r)
-unfolding Within EndsIn
-engine_shift_within n t s (Err f) e = e
-engine_shift_within n t s (Ok r) e = engine_limit_within n t s r.value (number_part Limit r.after) (number_part_within n Limit r.after e)
-
-engine_stripes_within : (n t : ℕ) (r : Result (Reading ℕ) FormFault) → Within n (EndsIn n) r → Within n Any (engine_stripes t r)
-unfolding Within EndsIn
-engine_stripes_within n t (Err f) e = e
-engine_stripes_within n t (Ok r) e = engine_shift_within n t r.value (number_part Shift r.after) (number_part_within n Shift r.after e)
-
-engine_threads_within : (n : ℕ) (r : Result (Reading ℕ) FormFault) → Within n (EndsIn n) r → Within n Any (engine_threads r)
-unfolding Within EndsIn
-engine_threads_within n (Err f) e = e
-engine_threads_within n (Ok r) e = engine_stripes_within n r.value (number_part Stripes r.after) (number_part_within n Stripes r.after e)
+part_within n in_token p s h =
+    then_within n (EndsIn n) (EndsIn n) _ _ (begun_within n p s h) λ b e.
+    then_within n (EndsIn n) (EndsIn n) _ _ (item_within n in_token b.after e) λ a f.
+    then_within n (EndsIn n) (EndsIn n) _ _ (bracket_within n Close a.after f) λ c g. g
 
 engine_within : (n : ℕ) (s : Spot) → InLine n s → Within n Any (engine_at s)
-engine_within n s h = engine_threads_within n (number_part Threads s) (number_part_within n Threads s h)
+unfolding Within EndsIn Any
+engine_within n s h =
+    then_within n (EndsIn n) Any _ _ (part_within n number_in Threads s h) λ a e.
+    then_within n (EndsIn n) Any _ _ (part_within n number_in Stripes a.after e) λ b f.
+    then_within n (EndsIn n) Any _ _ (part_within n number_in Shift b.after f) λ c g.
+    then_within n (EndsIn n) Any _ _ (part_within n number_in Limit c.after g) λ d i.
+    then_within n (EndsIn n) Any _ _ (part_within n number_in Words d.after i) λ w j.
+    then_within n (EndsIn n) Any _ _ (part_within n (name_in kind_named) Kind w.after j) λ k l.
+    then_within n (EndsIn n) Any _ _ (part_within n (name_in policy_named) Policy k.after l) λ p m.
+    then_within n (EndsIn n) Any _ _ (bracket_within n Close p.after m) λ q o. tt
 
 -- forms
 
@@ -246,29 +136,24 @@ unfolding Within Any
 made_within n P make (Err f) h = h
 made_within n P make (Ok a) h = tt
 
-call_within : (n : ℕ) (c : CallName) (s : Spot) → InLine n s → Within n Any (call_at c s)
-call_within n Begin s h = made_within n Any _ (one_number s) (one_within n s h)
-call_within n Load s h = made_within n Any _ (two_numbers s) (two_within n s h)
-call_within n Store s h = made_within n Any _ (three_numbers s) (three_within n s h)
-call_within n Seal s h = made_within n Any _ (one_number s) (one_within n s h)
-call_within n Drain s h = made_within n Any _ (one_number s) (one_within n s h)
-call_within n Back s h = made_within n Any _ (one_number s) (one_within n s h)
-call_within n Roll s h = made_within n (InLine n) _ (close_at s) (close_within n s h)
+call_within : (n : ℕ) (k : CallKind) (s : Spot) → InLine n s → Within n Any (call_at k s)
+call_within n Begin s h = made_within n Any _ _ (numbers_within n 1 s h)
+call_within n Load s h = made_within n Any _ _ (numbers_within n 2 s h)
+call_within n Store s h = made_within n Any _ _ (numbers_within n 3 s h)
+call_within n Seal s h = made_within n Any _ _ (numbers_within n 1 s h)
+call_within n Drain s h = made_within n Any _ _ (numbers_within n 1 s h)
+call_within n Back s h = made_within n Any _ _ (numbers_within n 1 s h)
 
 items_within : (n : ℕ) (k : Head) (s : Spot) → InLine n s → Within n Any (items_at k s)
-items_within n Engine s h = made_within n Any _ (engine_at s) (engine_within n s h)
-items_within n (Call c) s h = made_within n Any _ (call_at c s) (call_within n c s h)
-items_within n Peek s h = made_within n Any _ (one_number s) (one_within n s h)
+items_within n Engine s h = made_within n Any _ _ (engine_within n s h)
+items_within n (Call c) s h = made_within n Any _ _ (call_within n c s h)
+items_within n Roll s h = made_within n (EndsIn n) _ _ (bracket_within n Close s h)
+items_within n Peek s h = made_within n Any _ _ (numbers_within n 1 s h)
 
 due_within : (n : ℕ) (k : Reading Head) (b : Bool) → EndsIn n k → Within n Any (form_due k b)
 unfolding Within EndsIn
 due_within n k true h = items_within n k.value k.after h
 due_within n k false h = omega arith
-
-headed_within : (n : ℕ) (b : Bool) (r : Result (Reading Head) FormFault) → Within n (EndsIn n) r → Within n Any (form_headed b r)
-unfolding Within
-headed_within n b (Err f) h = h
-headed_within n b (Ok k) h = due_within n k (is_due k.value b) h
 
 head_of_within : (n : ℕ) (t : Taken) (o : Option Head) → OfLine n t → Within n (EndsIn n) (head_of t o)
 unfolding Within EndsIn
@@ -278,7 +163,7 @@ head_of_within n t None h = h.column
 head_within : (n : ℕ) (s : Spot) → InLine n s → Within n (EndsIn n) (head_at s)
 head_within n s h =
     let behind = (token_at s).after in
-    head_of_within n (token_at behind) (head_in (token_at behind).token) (token_of_line n behind (token_of_line n s h).after)
+    head_of_within n (token_at behind) (name_in head_named (token_at behind).token) (token_of_line n behind (token_of_line n s h).after)
 
 -- the text
 
@@ -312,7 +197,8 @@ verdict_column l = verdict_of l (reached Start 1 l.bytes) (reached_column Start 
 read_within : (l : Line) (b : Bool) (v : Result (Unit {0}) TextFault) → text_column v ≤ length l.bytes + 1 → Within (length l.bytes) Any (form_read l b v)
 unfolding Within InLine text_column
 read_within l b (Err f) h = h
-read_within l b (Ok u) h = headed_within (length l.bytes) b _ (head_within (length l.bytes) (record { size = length l.bytes; rest = l.bytes }) refl)
+read_within l b (Ok u) h =
+    then_within (length l.bytes) (EndsIn (length l.bytes)) Any _ _ (head_within (length l.bytes) (record { size = length l.bytes; rest = l.bytes }) refl) (λ k e. due_within (length l.bytes) k (is_due k.value b) e)
 
 -- a fault of a line names one of its columns, or one past its end
 pub columns_within : (l : Line) (b : Bool) (f : FormFault) → form_of l b ≡ Err f → fault_column f ≤ length l.bytes + 1

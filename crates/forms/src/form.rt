@@ -1,7 +1,7 @@
 use rules::call::Call;
 
 // How an engine keeps its words.
-#[derive(Clone, Copy)]
+#[derive(Clone, Copy, PartialEq, Eq, Debug)]
 pub enum StoreKind {
     // Each in a cell of 32 bits.
     Plain,
@@ -10,7 +10,7 @@ pub enum StoreKind {
 }
 
 // The contention policy of an engine.
-#[derive(Clone, Copy)]
+#[derive(Clone, Copy, PartialEq, Eq, Debug)]
 pub enum PolicyName {
     Suicide,
     Aggressive,
@@ -19,7 +19,7 @@ pub enum PolicyName {
 }
 
 // The engine that a script asks for, before its numbers are checked.
-#[derive(Clone, Copy)]
+#[derive(Clone, Copy, PartialEq, Eq, Debug)]
 pub struct EngineForm {
     pub threads: u32,
     pub stripes: u32,

@@ -18,7 +18,7 @@ pub enum FormFault {
 }
 
 impl FormFault {
-    // The number that the documents and the console give this fault.
+    // The number that the documents and the console give this fault. Callers print it, so it stays a number.
     pub fn number(self) -> u32
         ensures { result ≡ fault_number self }
     {

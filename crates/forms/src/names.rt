@@ -1,7 +1,17 @@
-ghost use Rattle.std.specs.Prelude.{◌≡◌};
+ghost use Rattle.std.specs.Prelude.{◌≡◌, ℕ, List, Option};
 ghost use Rattle.forms.specs.Names.{kind_named, part_named, policy_named};
 
 use crate::form::{PolicyName, StoreKind};
+
+// What a name can mean. It is no TryFrom: a name that means nothing is no error yet, since only its place in the form
+// says which fault it is.
+pub trait Named: Sized {
+    ghost named: { List ℕ → Option Self };
+
+    // What the name means, if it means anything.
+    fn named(name: &[u8]) -> Option<Self>
+        ensures { result ≡ named name.now };
+}
 
 // A part of an engine form.
 #[derive(Clone, Copy)]
@@ -16,7 +26,7 @@ pub enum Part {
 }
 
 impl Part {
-    // Whether the part has this name.
+    // Whether the part has this name. Which part comes is known, so this is a test, and no part is read from a name.
     pub fn is_named(self, name: &[u8]) -> bool
         ensures { result ≡ part_named self name.now }
     {
@@ -32,26 +42,28 @@ impl Part {
     }
 }
 
-// The kind of store that a name means, if there is one.
-pub fn kind_named(name: &[u8]) -> Option<StoreKind>
-    ensures { result ≡ kind_named name.now }
-{
-    match name {
-        b"plain" => Some(StoreKind::Plain),
-        b"registers" => Some(StoreKind::Registers),
-        _ => None,
+impl Named for StoreKind {
+    ghost named = { kind_named };
+
+    fn named(name: &[u8]) -> Option<StoreKind> {
+        match name {
+            b"plain" => Some(StoreKind::Plain),
+            b"registers" => Some(StoreKind::Registers),
+            _ => None,
+        }
     }
 }
 
-// The policy that a name means, if there is one.
-pub fn policy_named(name: &[u8]) -> Option<PolicyName>
-    ensures { result ≡ policy_named name.now }
-{
-    match name {
-        b"suicide" => Some(PolicyName::Suicide),
-        b"aggressive" => Some(PolicyName::Aggressive),
-        b"karma" => Some(PolicyName::Karma),
-        b"killprio" => Some(PolicyName::KillPrio),
-        _ => None,
+impl Named for PolicyName {
+    ghost named = { policy_named };
+
+    fn named(name: &[u8]) -> Option<PolicyName> {
+        match name {
+            b"suicide" => Some(PolicyName::Suicide),
+            b"aggressive" => Some(PolicyName::Aggressive),
+            b"karma" => Some(PolicyName::Karma),
+            b"killprio" => Some(PolicyName::KillPrio),
+            _ => None,
+        }
     }
 }

@@ -1,34 +1,20 @@
 ghost use Rattle.std.specs.Prelude.{◌≡◌};
-ghost use Rattle.forms.specs.Numbers.{one_number, two_numbers, three_numbers};
+ghost use Rattle.forms.specs.Numbers.{numbers_at};
 ghost use Rattle.text.specs.Views.{spot};
 
 use crate::form_fault::FormFault;
-use crate::item::{close, number_item};
+use crate::item::{Bracket, next_item, pass};
 use text::cursor::Cursor;
 
-// The one number of a form.
-pub fn one_number(cursor: Cursor<'_>) -> Result<u32, FormFault>
-    ensures { result ≡ one_number (spot cursor.entry) }
+// The numbers of a form that takes no other items.
+#[tactic(auto, using(crate::proofs::Steps::numbers_more, crate::proofs::Steps::numbers_done, std::proofs::lemmas::Grind::common_steps))]
+pub fn numbers<const N: usize>(cursor: &mut Cursor<'_>) -> Result<[u32; N], FormFault>
+    ensures { result ≡ numbers_at N (spot cursor.old) }
 {
-    let (number, cursor) = number_item(cursor)?;
-    close(cursor)?;
-    Ok(number)
-}
-
-// The two numbers of a form.
-pub fn two_numbers(cursor: Cursor<'_>) -> Result<(u32, u32), FormFault>
-    ensures { result ≡ two_numbers (spot cursor.entry) }
-{
-    let (first, cursor) = number_item(cursor)?;
-    let second = one_number(cursor)?;
-    Ok((first, second))
-}
-
-// The three numbers of a form.
-pub fn three_numbers(cursor: Cursor<'_>) -> Result<(u32, u32, u32), FormFault>
-    ensures { result ≡ three_numbers (spot cursor.entry) }
-{
-    let (first, cursor) = number_item(cursor)?;
-    let (second, third) = two_numbers(cursor)?;
-    Ok((first, second, third))
+    let mut numbers = [0; N];
+    for number in &mut numbers {
+        *number = next_item(cursor)?;
+    }
+    pass(cursor, Bracket::Close)?;
+    Ok(numbers)
 }

@@ -1,113 +1,93 @@
 ghost use Rattle.std.specs.Prelude.{◌≡◌};
 ghost use Rattle.forms.specs.Forms.{call_at, form_of, items_at};
-ghost use Rattle.forms.specs.Heads.{head_at, head_in};
+ghost use Rattle.forms.specs.Heads.{head_at};
 ghost use Rattle.forms.specs.Views.{reading_view};
-ghost use Rattle.text.specs.Views.{line_view, spot, token_view};
+ghost use Rattle.text.specs.Views.{line_view, spot};
 
 use crate::engine::engine_items;
 use crate::form::Form;
 use crate::form_fault::FormFault;
-use crate::head::{CallName, Head};
-use crate::item::close;
-use crate::numbers::{one_number, three_numbers, two_numbers};
+use crate::head::Head;
+use crate::item::{Bracket, Item, pass};
+use crate::numbers::numbers;
 use rules::call::Call;
+use rules::kind::Kind;
 use text::cursor::Cursor;
 use text::line::Line;
 use text::place::check_text;
-use text::token::Token;
 
-// The form of a line of a script that has accepted an engine before or not; or what is wrong with the line.
+// The form of a line of a script that has accepted an engine before or not; or what is wrong with the line. The flag
+// comes with no value: reading asks nothing of the engine but whether there is one.
 pub fn read_form(line: Line<'_>, has_engine: bool) -> Result<Form, FormFault>
     ensures { result ≡ form_of (line_view line.entry) has_engine }
 {
     check_text(line)?;
-    let (head, cursor) = read_head(Cursor::new(line.bytes))?;
+    let mut cursor = Cursor::new(line.bytes);
+    let head = read_head(&mut cursor)?;
     if !head.is_due(has_engine) {
         return Err(FormFault::Order);
     }
-    read_items(head, cursor)
+    read_items(head, &mut cursor)
 }
 
-// Which form the name behind the first bracket heads, and the place behind that name.
-fn read_head<'a>(cursor: Cursor<'a>) -> Result<(Head, Cursor<'a>), FormFault>
-    ensures { reading_view result ≡ head_at (spot cursor.entry) }
+// Which form the name behind the first bracket heads.
+fn read_head(cursor: &mut Cursor<'_>) -> Result<Head, FormFault>
+    ensures { reading_view result cursor.new ≡ head_at (spot cursor.old) }
 {
-    let (_, cursor) = cursor.token();
-    let (token, rest) = cursor.token();
-    match head_in(token) {
-        Some(head) => Ok((head, rest)),
-        None => Err(FormFault::Name {
-            column: token.column(),
-        }),
-    }
-}
-
-// Which form a token heads.
-fn head_in(token: Token<'_>) -> Option<Head>
-    ensures { result ≡ head_in (token_view token.entry) }
-{
-    match token {
-        Token::Name { text, .. } => Head::named(text),
-        _ => None,
-    }
+    let _bracket = cursor.next_token();
+    let token = cursor.next_token();
+    Head::in_token(token).ok_or(FormFault::Name {
+        column: token.column(),
+    })
 }
 
 // The items of a form, with its closing bracket.
-fn read_items(head: Head, cursor: Cursor<'_>) -> Result<Form, FormFault>
-    ensures { result ≡ items_at head (spot cursor.entry) }
+fn read_items(head: Head, cursor: &mut Cursor<'_>) -> Result<Form, FormFault>
+    ensures { result ≡ items_at head (spot cursor.old) }
 {
     match head {
-        Head::Engine => {
-            let engine = engine_items(cursor)?;
-            Ok(Form::Engine(engine))
-        }
-        Head::Call(name) => {
-            let call = read_call(name, cursor)?;
-            Ok(Form::Call(call))
-        }
+        Head::Engine => engine_items(cursor).map(Form::Engine),
+        Head::Call(kind) => read_call(kind, cursor).map(Form::Call),
+        Head::Roll => pass(cursor, Bracket::Close).map(|()| Form::Call(Call::Roll)),
         Head::Peek => {
-            let stripe = one_number(cursor)?;
+            let [stripe] = numbers::<1>(cursor)?;
             Ok(Form::Peek { stripe })
         }
     }
 }
 
-// The items of a call, with its closing bracket.
-fn read_call(name: CallName, cursor: Cursor<'_>) -> Result<Call, FormFault>
-    ensures { result ≡ call_at name (spot cursor.entry) }
+// The items of a call on a thread, with its closing bracket.
+fn read_call(kind: Kind, cursor: &mut Cursor<'_>) -> Result<Call, FormFault>
+    ensures { result ≡ call_at kind (spot cursor.old) }
 {
-    match name {
-        CallName::Begin => {
-            let thread = one_number(cursor)?;
+    match kind {
+        Kind::Begin => {
+            let [thread] = numbers::<1>(cursor)?;
             Ok(Call::Begin { thread })
         }
-        CallName::Load => {
-            let (thread, address) = two_numbers(cursor)?;
+        Kind::Load => {
+            let [thread, address] = numbers::<2>(cursor)?;
             Ok(Call::Load { thread, address })
         }
-        CallName::Store => {
-            let (thread, address, word) = three_numbers(cursor)?;
+        Kind::Store => {
+            let [thread, address, word] = numbers::<3>(cursor)?;
             Ok(Call::Store {
                 thread,
                 address,
                 word,
             })
         }
-        CallName::Seal => {
-            let thread = one_number(cursor)?;
+        Kind::Seal => {
+            let [thread] = numbers::<1>(cursor)?;
             Ok(Call::Seal { thread })
         }
-        CallName::Drain => {
-            let thread = one_number(cursor)?;
+        Kind::Drain => {
+            let [thread] = numbers::<1>(cursor)?;
             Ok(Call::Drain { thread })
         }
-        CallName::Back => {
-            let thread = one_number(cursor)?;
+        Kind::Back => {
+            let [thread] = numbers::<1>(cursor)?;
             Ok(Call::Back { thread })
-        }
-        CallName::Roll => {
-            close(cursor)?;
-            Ok(Call::Roll)
         }
     }
 }

@@ -1,4 +1,4 @@
-use crate::form::{Form, PolicyName, StoreKind};
+use crate::form::{EngineForm, Form, PolicyName, StoreKind};
 use crate::form_fault::FormFault;
 use crate::read::read_form;
 use rules::call::Call;
@@ -61,9 +61,15 @@ fn an_engine_has_its_parts_in_order(rt: HostRuntime) -> Result<(), Fail> {
     let Form::Engine(engine) = read(line, false)? else {
         return Err(Fail::new("no engine"));
     };
-    assert_eq!(rt; (engine.threads, engine.stripes, engine.shift), (2, 4, 1));
-    assert_eq!(rt; (engine.limit, engine.words), (9, 16));
-    assert!(rt; matches!(engine.kind, StoreKind::Registers));
-    assert!(rt; matches!(engine.policy, PolicyName::Karma));
+    let expected = EngineForm {
+        threads: 2,
+        stripes: 4,
+        shift: 1,
+        limit: 9,
+        words: 16,
+        kind: StoreKind::Registers,
+        policy: PolicyName::Karma,
+    };
+    assert_eq!(rt; engine, expected);
     Ok(())
 }

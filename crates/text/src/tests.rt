@@ -52,8 +52,9 @@ fn lines_come_one_by_one(rt: HostRuntime) -> Result<(), Fail> {
 
 #[test]
 fn tokens_have_columns(rt: HostRuntime) {
-    let (_open, rest) = Cursor::new(b"(load 7)").token();
-    let (_name, rest) = rest.token();
-    let (number, _rest) = rest.token();
-    assert!(rt; number.column() == 7);
+    let mut cursor = Cursor::new(b"(load 7)");
+    let columns = [1, 2, 7, 8, 9];
+    for column in columns {
+        assert!(rt; cursor.next_token().column() == column);
+    }
 }
