@@ -2,7 +2,7 @@ ghost use Rattle.std.specs.Prelude.{◌≡◌, ◌+◌, length};
 ghost use Rattle.text.specs.Lines.{lines};
 ghost use Rattle.text.specs.Views.{cut_lines, length_behind, parted_lines, Shorter};
 
-use crate::class::Class;
+use crate::split::split_while;
 use std::marker::Model;
 
 // A line of a script: its bytes, and whether a line feed ended it.
@@ -54,7 +54,7 @@ impl<'a> Iterator for Lines<'a> {
 
     // The next line; bytes behind the last line feed are one more.
     fn next(&mut self) -> Option<Line<'a>> {
-        match Class::InLine.split(self.rest()) {
+        match split_while(self.rest(), |byte| *byte != b'\n') {
             (bytes, [_, rest @ ..]) => {
                 *self = Lines::new(rest);
                 Some(Line { bytes, ended: true })
@@ -111,7 +111,7 @@ fn parted<'a>(script: &'a [u8]) -> (&'a [u8], Option<&'a [u8]>)
     ensures lines { lines script.now ≡ parted_lines result.0.now result.1 }
     ensures size { length result.0.now + length_behind result.1 ≡ length script.now }
 {
-    match Class::InLine.split(script) {
+    match split_while(script, |byte| *byte != b'\n') {
         (bytes, [_, rest @ ..]) => (bytes, Some(rest)),
         (bytes, []) => (bytes, None),
     }
