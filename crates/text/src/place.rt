@@ -103,15 +103,8 @@ fn reached(bytes: &[u8]) -> Result<Place, TextFault>
     ensures { result ≡ reached Start 1 bytes.now }
 {
     let mut place = Place::Start;
-    let mut rest = bytes;
-    let mut column = 1;
-    while let [byte, tail @ ..] = rest {
-        let Some(next) = place.next(*byte) else {
-            return Err(TextFault { column });
-        };
-        place = next;
-        rest = tail;
-        column += 1;
+    for (i, byte) in bytes.iter().enumerate() {
+        place = place.next(*byte).ok_or(TextFault { column: i + 1 })?;
     }
     Ok(place)
 }

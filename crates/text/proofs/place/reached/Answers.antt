@@ -1,26 +1,22 @@
-use Rattle.std.proofs.Common.{◌≡◌, ◌<◌, length, refl, ap, rules}
-use Rattle.std.proofs.lemmas.List.{nil_from_length}
-use Rattle.text.proofs.Firsts.{at_first}
+use Rattle.std.proofs.Common.{◌+◌, rules}
+use Rattle.std.proofs.lemmas.List.{at_drop_more, at_drop_all}
 use Rattle.text.specs.Verdicts.{reached}
 use Rattle.text.proofs.place.reached.Goals as goal
 
-pub returns-in_default-next : goal.returns-in_default-next
+pub returns-in_err-place : goal.returns-in_err-place
 unfolding reached
-returns-in_default-next c =
-    let some : 0 < length c.loop-rest.rest.now = search rules in
-    let e = at_first (reached c.loop-rest.place c.loop-rest.column) c.loop-rest.rest.now _ some refl in
+returns-in_err-place c =
+    let e = at_drop_more (reached c.loop-i.place (c.loop-i.i + 1)) c.args.bytes.now c.loop-i.i 0 c.loop-i-test.true in
     search (rules, e)
 
-pub loop-rest-preserved : goal.loop-rest-preserved
+pub loop-i-preserved : goal.loop-i-preserved
 unfolding reached
-loop-rest-preserved c =
-    let some : 0 < length c.loop-rest.rest.now = search rules in
-    let e = at_first (reached c.loop-rest.place c.loop-rest.column) c.loop-rest.rest.now _ some refl in
+loop-i-preserved c =
+    let e = at_drop_more (reached c.loop-i.place (c.loop-i.i + 1)) c.args.bytes.now c.loop-i.i 0 c.loop-i-test.true in
     search (rules, e)
 
 pub returns : goal.returns
 unfolding reached
 returns c =
-    let none : length c.loop-rest.rest.now ≡ 0 = search rules in
-    let e = ap (reached c.loop-rest.place c.loop-rest.column) (nil_from_length c.loop-rest.rest.now none) in
+    let e = at_drop_all (reached c.loop-i.place (c.loop-i.i + 1)) c.args.bytes.now c.loop-i.i c.loop-i-test.false in
     search (rules, e)
