@@ -99,6 +99,7 @@ fn verdict(line: Line<'_>) -> Result<(), TextFault>
 }
 
 // The place to which the bytes lead, or the first that leads nowhere.
+#[tactic(auto, unfolding(crate::specs::Verdicts::reached))]
 fn reached(bytes: &[u8]) -> Result<Place, TextFault>
     ensures { result ≡ reached Start 1 bytes.now }
 {
