@@ -1,11 +1,10 @@
 -- The lines of a script that is parted at its first line feed.
-use Rattle.std.proofs.Common.{◌≡◌, ℕ, ◌+◌, ◌<◌, Bool, true, false, cond, not, eqb, List, [], ◌∷◌, length, take, drop, None, sym, refl, ap, ◌∙◌, one-add, arith, length-append, take-append-drop}
+use Rattle.std.proofs.Common.{◌≡◌, ℕ, ◌+◌, ◌-◌, ◌<◌, Bool, true, false, cond, not, eqb, List, [], ◌∷◌, length, take, drop, sym, refl, ap, ◌∙◌, one-add, arith, length-append, take-append-drop}
 use Rattle.std.proofs.lemmas.List.{nil_from_length}
+use Rattle.std.proofs.lemmas.Slice.{first_rest}
 use Rattle.std.specs.List.{prefix_len}
-use Rattle.text.proofs.Firsts.{at_first, rest_of}
 use Rattle.text.specs.Bytes.{in_line}
 use Rattle.text.specs.Lines.{Line, lengthened, lines}
-use Rattle.text.specs.Views.{parted_lines}
 
 -- the lines of a script by the bytes before its first line feed and those from it on
 abbrev pub lines_by : List ℕ → List ℕ → List Line
@@ -40,18 +39,9 @@ parted script front back f b = record {
   size = rw (f, b) (sym (length-append _ _) ∙ ap length (take-append-drop (prefix_len in_line script) script));
 }
 
--- nothing is behind it
-pub at_end : (script front back : List ℕ) → Parted script front back → length back ≡ 0 → lines script ≡ parted_lines front None
-unfolding lines
-at_end script front back p none = p.by ∙ ap (lines_by front) (nil_from_length back none) ∙ unended front
-  where
-    unended : (bs : List ℕ) → lines_by bs [] ≡ parted_lines bs None
-    unended [] = refl
-    unended (b ∷ bs) = refl
-
--- a line feed and more lines are behind it
-pub at_feed : (script front back : List ℕ) → Parted script front back → 0 < length back → lines script ≡ (record { bytes = front; ended = true } ∷ lines (rest_of back))
-at_feed script front back p some = p.by ∙ at_first (lines_by front) back _ some refl
+-- a line that a line feed ends is left, and more behind it
+pub ended_line : (script front back : List ℕ) → Parted script front back → 0 < length back → lines script ≡ (record { bytes = front; ended = true } ∷ lines (take (length back - 1) (drop 1 back)))
+ended_line script front back p some = p.by ∙ ap (lines_by front) (first_rest back 0 some)
 
 -- nothing is left of it
 pub no_line : (script front back : List ℕ) → Parted script front back → length back ≡ 0 → length front ≡ 0 → lines script ≡ []

@@ -1,6 +1,6 @@
 use Rattle.std.proofs.Common.{◌≡◌, ◌<◌, length, take, drop, rules}
 use Rattle.std.specs.List.{prefix_len}
-use Rattle.text.proofs.Parts.{Parted, parted, at_feed, no_line, last_line}
+use Rattle.text.proofs.Parts.{Parted, parted, ended_line, no_line, last_line}
 use Rattle.text.proofs.line.LinesIterator.next.Goals as goal
 use Rattle.text.proofs.line.LinesIterator.next.Goals.{After-split_while}
 use Rattle.text.specs.Bytes.{in_line}
@@ -16,7 +16,7 @@ pub returns-in_default-len1-up : goal.returns-in_default-len1-up
 returns-in_default-len1-up c =
     let p = parts (goal.at.returns-in_default-len1-up c).After-split_while in
     let some : 0 < length c.split_while.result.1.now = search rules in
-    let e = at_feed _ _ _ p some in
+    let e = ended_line _ _ _ p some in
     record { steps = search (rules, e, p.size); goes = search (rules, p.size) }
 
 pub returns-in-empty-empty-clause-steps : goal.returns-in-empty-empty-clause-steps
