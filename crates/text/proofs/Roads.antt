@@ -1,5 +1,6 @@
 -- The place to which bytes lead from a place, if they lead anywhere.
-use Rattle.std.proofs.Common.{◌≡◌, ℕ, suc, ◌+◌, ◌<◌, Bool, true, false, cond, ◌⊎◌, List, [], ◌∷◌, ◌++◌, length, take, Some, None, Ok, Err, Option, Result, refl, ap, ◌∙◌, inl, inr, arith}
+use Rattle.std.proofs.Common.{◌≡◌, ℕ, suc, ◌+◌, ◌<◌, Bool, true, false, cond, List, [], ◌∷◌, ◌++◌, length, take, Some, None, Ok, Err, Option, Result, refl, ap, ◌∙◌, arith}
+use Rattle.std.proofs.lemmas.Bool.{cond_both}
 use Rattle.text.specs.Places.{next}
 use Rattle.text.specs.Verdicts.{reached}
 use Rattle.text.specs.declared.place.Place.{Place}
@@ -30,9 +31,8 @@ pub never_ends : (bs : List ℕ) → Ends None bs → ⊥
 never_ends bs h = cc (after_none bs)
 
 -- by a test on the first byte
-pub ends_by : (t : Bool) (x y : Option Place) (bs : List ℕ) → Ends (cond t x y) bs → ((t ≡ true) × Ends x bs) ⊎ ((t ≡ false) × Ends y bs)
-ends_by true x y bs h = inl (refl, h)
-ends_by false x y bs h = inr (refl, h)
+pub by_test : {A : Type 0} (t : Bool) (x y : Option Place) (bs : List ℕ) → (t ≡ true → Ends x bs → A) → (t ≡ false → Ends y bs → A) → Ends (cond t x y) bs → A
+by_test {A} t x y bs = cond_both t x y (λ o. Ends o bs → A)
 
 -- what the place reached from a column says, or the column at which there is none
 abbrev pub Road : Place → ℕ → List ℕ → Result Place TextFault → Type 0
