@@ -1,8 +1,8 @@
 -- A form leads from the start to the end.
-use Rattle.std.proofs.Common.{◌≡◌, ℕ, true, false, eqb, List, [], ◌∷◌, ◌++◌, Some, None, sym, refl, ap, ◌∙◌, subst, append_assoc, arith}
+use Rattle.std.proofs.Common.{◌≡◌, ℕ, true, false, List, [], ◌∷◌, ◌++◌, Some, sym, refl, ap, ◌∙◌, subst, append_assoc, arith}
 use Rattle.std.proofs.lemmas.Bool.{ne_eqb}
 use Rattle.std.proofs.lemmas.Bool.Decides.{nat_tests}
-use Rattle.text.proofs.Roads.{Ends, ends_if, ends_else}
+use Rattle.text.proofs.Roads.{Ends, after}
 use Rattle.text.specs.Bytes.{is_letter, is_digit}
 use Rattle.text.specs.Grammar.{Letters, Digits, Name, letters, Number, nought, digits, Plain, name, number, Items, none, more, Bracketed, bracketed, Item, plain, form, Form}
 use Rattle.text.specs.declared.place.Depth.{Depth}
@@ -20,26 +20,22 @@ not_letter b e = grind (arith, nat_tests)
 
 letters_lead : (d : Depth) (l rest : List ℕ) → Letters l → Ends (Some (InName d)) rest → Ends (Some (InName d)) (l ++ rest)
 letters_lead d [] rest ls h = h
-letters_lead d (b ∷ l) rest ls h = ends_if (is_letter b) _ _ (l ++ rest) ls.0 (letters_lead d l rest ls.1 h)
+letters_lead d (b ∷ l) rest ls h = rw (ls.0, after) (letters_lead d l rest ls.1 h)
 
 digits_lead : (d : Depth) (l rest : List ℕ) → Digits l → Ends (Some (InNumber d)) rest → Ends (Some (InNumber d)) (l ++ rest)
 digits_lead d [] rest ls h = h
-digits_lead d (b ∷ l) rest ls h = ends_if (is_digit b) _ _ (l ++ rest) ls.0 (digits_lead d l rest ls.1 h)
+digits_lead d (b ∷ l) rest ls h = rw (ls.0, after) (digits_lead d l rest ls.1 h)
 
 name_leads : (d : Depth) (n rest : List ℕ) → Name n → Onward d rest → Ends (Some (Opened d)) (n ++ rest)
-name_leads d n rest (letters b bs ls) on =
-    ends_if (is_letter b) (Some (InName d)) None (bs ++ rest) ls.0 (letters_lead d bs rest ls.1 on.in_name)
+name_leads d n rest (letters b bs ls) on = rw (ls.0, after) (letters_lead d bs rest ls.1 on.in_name)
 
 number_leads : (d : Depth) (i rest : List ℕ) → Number i → Onward d rest → Ends (Some (Spaced d)) (i ++ rest)
 number_leads d i rest nought on = on.complete
 number_leads d i rest (digits b bs ne ls) on =
-    ends_else (is_letter b) _ _ (bs ++ rest) (not_letter b ls.0)
-    (ends_else (eqb b 48) _ _ (bs ++ rest) (ne_eqb b 48 ne)
-    (ends_if (is_digit b) _ _ (bs ++ rest) ls.0 (digits_lead d bs rest ls.1 on.in_number)))
+    rw (not_letter b ls.0, ne_eqb b 48 ne, ls.0, after) (digits_lead d bs rest ls.1 on.in_number)
 
 name_item_leads : (d : Depth) (i rest : List ℕ) → Name i → Onward d rest → Ends (Some (Spaced d)) (i ++ rest)
-name_item_leads d i rest (letters b bs ls) on =
-    ends_if (is_letter b) _ _ (bs ++ rest) ls.0 (letters_lead d bs rest ls.1 on.in_name)
+name_item_leads d i rest (letters b bs ls) on = rw (ls.0, after) (letters_lead d bs rest ls.1 on.in_name)
 
 plain_leads : (d : Depth) (i rest : List ℕ) → Plain i → Onward d rest → Ends (Some (Spaced d)) (i ++ rest)
 plain_leads d i rest (name bs n) on = name_item_leads d bs rest n on

@@ -1,7 +1,7 @@
 -- Bytes that lead from a place to the end of a form complete a form from there.
-use Rattle.std.proofs.Common.{◌≡◌, ℕ, true, eqb, List, [], ◌∷◌, ◌++◌, Some, None, sym, ap, ◌∙◌, subst, ⊎_elim, append_assoc}
+use Rattle.std.proofs.Common.{◌≡◌, ℕ, true, eqb, List, [], ◌∷◌, ◌++◌, Some, sym, ap, ◌∙◌, subst, append_assoc}
 use Rattle.std.proofs.lemmas.Bool.{eqb-true, eqb-false}
-use Rattle.text.proofs.Roads.{Ends, ends_by, never_ends}
+use Rattle.text.proofs.Roads.{Ends, by_test, never_ends}
 use Rattle.text.specs.Bytes.{is_letter, is_digit}
 use Rattle.text.specs.Grammar.{Letters, Digits, Name, letters, nought, digits, Plain, name, number, Items, none, more, bracketed, Item, plain, form, Form}
 use Rattle.text.specs.Places.{bracketed as bracket-at, closed, ended, item as item-at}
@@ -95,61 +95,55 @@ abbrev Onward : List ℕ → Type 0
 Onward bs = (p : Place) → Ends (Some p) bs → Completes p bs
 
 ended_tail : (d : Depth) (b : ℕ) (bs : List ℕ) → Onward bs → Ends (ended d b) bs → Tail d (b ∷ bs)
-ended_tail d b bs go h =
-    ⊎_elim
-    (λ k. at_byte (Tail d) b 32 bs k.0 (spaced_tail d bs (go (Spaced d) k.1)))
-    (λ k.
-    ⊎_elim
-    (λ m. at_byte (Tail d) b 41 bs m.0 (closed_tail d bs (go (closed d) m.1)))
-    (λ m. absurd (never_ends bs m.1))
-    (ends_by (eqb b 41) (Some (closed d)) None bs k.1))
-    (ends_by (eqb b 32) (Some (Spaced d)) _ bs h)
+ended_tail d b bs go =
+    by_test (eqb b 32) _ _ bs
+    (λ is h. at_byte (Tail d) b 32 bs is (spaced_tail d bs (go (Spaced d) h)))
+    (λ _.
+    by_test (eqb b 41) _ _ bs
+    (λ is h. at_byte (Tail d) b 41 bs is (closed_tail d bs (go (closed d) h)))
+    (λ _ h. absurd (never_ends bs h)))
 
 bracket_item : (d : Depth) (b : ℕ) (bs : List ℕ) → Onward bs → Ends (bracket-at d b) bs → Completes (Spaced d) (b ∷ bs)
-bracket_item Outer b bs go h =
-    ⊎_elim
-    (λ k. at_byte (Completes (Spaced Outer)) b 40 bs k.0 (item_form bs (go (Opened Inner) k.1)))
-    (λ k. absurd (never_ends bs k.1))
-    (ends_by (eqb b 40) (Some (Opened Inner)) None bs h)
-bracket_item Inner b bs go h = absurd (never_ends bs h)
+bracket_item Outer b bs go =
+    by_test (eqb b 40) _ _ bs
+    (λ is h. at_byte (Completes (Spaced Outer)) b 40 bs is (item_form bs (go (Opened Inner) h)))
+    (λ _ h. absurd (never_ends bs h))
+bracket_item Inner b bs go = λ h. absurd (never_ends bs h)
 
 begun_item : (d : Depth) (b : ℕ) (bs : List ℕ) → Onward bs → Ends (item-at d b) bs → Completes (Spaced d) (b ∷ bs)
-begun_item d b bs go h =
-    ⊎_elim
-    (λ k. item_name d b bs k.0 (go (InName d) k.1))
-    (λ k.
-    ⊎_elim
-    (λ m. at_byte (Completes (Spaced d)) b 48 bs m.0 (item_nought d bs (go (Complete d) m.1)))
-    (λ m.
-    ⊎_elim
-    (λ n. item_number d b bs (eqb-false b 48 m.0) n.0 (go (InNumber d) n.1))
-    (λ n. bracket_item d b bs go n.1)
-    (ends_by (is_digit b) (Some (InNumber d)) _ bs m.1))
-    (ends_by (eqb b 48) (Some (Complete d)) _ bs k.1))
-    (ends_by (is_letter b) (Some (InName d)) _ bs h)
+begun_item d b bs go =
+    by_test (is_letter b) _ _ bs
+    (λ is h. item_name d b bs is (go (InName d) h))
+    (λ _.
+    by_test (eqb b 48) _ _ bs
+    (λ is h. at_byte (Completes (Spaced d)) b 48 bs is (item_nought d bs (go (Complete d) h)))
+    (λ not.
+    by_test (is_digit b) _ _ bs
+    (λ is h. item_number d b bs (eqb-false b 48 not) is (go (InNumber d) h))
+    (λ _. bracket_item d b bs go)))
 
 completes : (bs : List ℕ) (p : Place) → Ends (Some p) bs → Completes p bs
 completes [] p h = let e : p ≡ Done = cc in subst (λ (q : Place). Completes q []) (sym e) done
 completes (b ∷ bs) Start h =
-    ⊎_elim
-    (λ k. at_byte (Completes Start) b 40 bs k.0 (whole (40 ∷ bs) (opened_form bs (completes bs (Opened Outer) k.1))))
-    (λ k. absurd (never_ends bs k.1))
-    (ends_by (eqb b 40) (Some (Opened Outer)) None bs h)
+    by_test (eqb b 40) _ _ bs
+    (λ is k. at_byte (Completes Start) b 40 bs is (whole (40 ∷ bs) (opened_form bs (completes bs (Opened Outer) k))))
+    (λ _ k. absurd (never_ends bs k))
+    h
 completes (b ∷ bs) (Opened d) h =
-    ⊎_elim
-    (λ k. name_begun d b bs k.0 (completes bs (InName d) k.1))
-    (λ k. absurd (never_ends bs k.1))
-    (ends_by (is_letter b) (Some (InName d)) None bs h)
+    by_test (is_letter b) _ _ bs
+    (λ is k. name_begun d b bs is (completes bs (InName d) k))
+    (λ _ k. absurd (never_ends bs k))
+    h
 completes (b ∷ bs) (InName d) h =
-    ⊎_elim
-    (λ k. name_more d b bs k.0 (completes bs (InName d) k.1))
-    (λ k. in_name d [] (b ∷ bs) tt (ended_tail d b bs (completes bs) k.1))
-    (ends_by (is_letter b) (Some (InName d)) (ended d b) bs h)
+    by_test (is_letter b) _ _ bs
+    (λ is k. name_more d b bs is (completes bs (InName d) k))
+    (λ _ k. in_name d [] (b ∷ bs) tt (ended_tail d b bs (completes bs) k))
+    h
 completes (b ∷ bs) (InNumber d) h =
-    ⊎_elim
-    (λ k. number_more d b bs k.0 (completes bs (InNumber d) k.1))
-    (λ k. in_number d [] (b ∷ bs) tt (ended_tail d b bs (completes bs) k.1))
-    (ends_by (is_digit b) (Some (InNumber d)) (ended d b) bs h)
+    by_test (is_digit b) _ _ bs
+    (λ is k. number_more d b bs is (completes bs (InNumber d) k))
+    (λ _ k. in_number d [] (b ∷ bs) tt (ended_tail d b bs (completes bs) k))
+    h
 completes (b ∷ bs) (Complete d) h = complete d (b ∷ bs) (ended_tail d b bs (completes bs) h)
 completes (b ∷ bs) (Spaced d) h = begun_item d b bs (completes bs) h
 completes (b ∷ bs) Done h = absurd (never_ends bs h)

@@ -42,8 +42,7 @@ begins_none bs h f =
     let lost : after (Some Start) (bs ++ f.0) ≡ None =
     after_append (Some Start) bs f.0 ∙ ap (λ (o : Option Place). after o f.0) h ∙ after_none f.0 in
     let found = form_ends (bs ++ f.0) f.1 in
-    let z : ◌≡◌ {A = ℕ} 0 1 = cc in
-    omega arith
+    cc
 
 -- a form begins a form at each of its bytes
 begun : (k : ℕ) (bs : List ℕ) → Form bs → Begins (take k bs)
@@ -78,7 +77,7 @@ module _ (l : Line) where
       let over = over_done p l.ended e in
       record {
         accepted = ((λ _. (form_from_end l.bytes (h ∙ ap (λ (q : Place). Some q) over.0), over.1)), λ _. refl);
-        refused = λ f ok. let z : ◌≡◌ {A = ℕ} 0 1 = cc in absurd (omega arith);
+        refused = λ f ok. absurd (cc);
       }
   led p false h e =
       let lacks : Whole l → ⊥ =

@@ -1,5 +1,6 @@
 -- The place to which bytes lead from a place, if they lead anywhere.
-use Rattle.std.proofs.Common.{◌≡◌, ℕ, suc, ◌+◌, ◌<◌, Bool, true, false, cond, ◌⊎◌, List, [], ◌∷◌, ◌++◌, length, take, Some, None, Ok, Err, Option, Result, refl, ap, ◌∙◌, inl, inr, arith}
+use Rattle.std.proofs.Common.{◌≡◌, ℕ, suc, ◌+◌, ◌<◌, Bool, true, false, cond, List, [], ◌∷◌, ◌++◌, length, take, Some, None, Ok, Err, Option, Result, refl, ap, ◌∙◌, arith}
+use Rattle.std.proofs.lemmas.Bool.{cond_both}
 use Rattle.text.specs.Places.{next}
 use Rattle.text.specs.Verdicts.{reached}
 use Rattle.text.specs.declared.place.Place.{Place}
@@ -27,18 +28,11 @@ abbrev pub Ends : Option Place → List ℕ → Type 0
 Ends o bs = after o bs ≡ Some Done
 
 pub never_ends : (bs : List ℕ) → Ends None bs → ⊥
-never_ends bs h = let n = after_none bs in let z : ◌≡◌ {A = ℕ} 0 1 = cc in omega arith
+never_ends bs h = cc (after_none bs)
 
 -- by a test on the first byte
-pub ends_by : (t : Bool) (x y : Option Place) (bs : List ℕ) → Ends (cond t x y) bs → ((t ≡ true) × Ends x bs) ⊎ ((t ≡ false) × Ends y bs)
-ends_by true x y bs h = inl (refl, h)
-ends_by false x y bs h = inr (refl, h)
-
-pub ends_if : (t : Bool) (x y : Option Place) (bs : List ℕ) → t ≡ true → Ends x bs → Ends (cond t x y) bs
-ends_if t x y bs e h = ap (λ (u : Bool). after (cond u x y) bs) e ∙ h
-
-pub ends_else : (t : Bool) (x y : Option Place) (bs : List ℕ) → t ≡ false → Ends y bs → Ends (cond t x y) bs
-ends_else t x y bs e h = ap (λ (u : Bool). after (cond u x y) bs) e ∙ h
+pub by_test : {A : Type 0} (t : Bool) (x y : Option Place) (bs : List ℕ) → (t ≡ true → Ends x bs → A) → (t ≡ false → Ends y bs → A) → Ends (cond t x y) bs → A
+by_test {A} t x y bs = cond_both t x y (λ o. Ends o bs → A)
 
 -- what the place reached from a column says, or the column at which there is none
 abbrev pub Road : Place → ℕ → List ℕ → Result Place TextFault → Type 0

@@ -1,6 +1,5 @@
 -- Lines, tokens and places of the code as the definitions see them: a borrowed part by its bytes.
-use Rattle.std.specs.Prelude.{ℕ, ◌+◌, ◌<◌, true, false, List, [], ◌∷◌, length, Some, None, Option, OnSome}
-use Rattle.std.specs.Borrow.{Bor}
+use Rattle.std.specs.Prelude.{ℕ, ◌<◌, List, [], ◌∷◌, length, Some, None, Option, OnSome}
 use Rattle.std.specs.Iterator.{YieldsFirstBy}
 use Rattle.text.specs.Lines.{Line, lines}
 use Rattle.text.specs.Tokens.{Token, opening, closing, name, number, end, Spot, Taken}
@@ -43,14 +42,3 @@ cut_lines (Some c) = line_view c.first ∷ lines c.rest.now
 abbrev pub Shorter : Option Cut → List ℕ → Type 0
 Shorter None bs = Unit {0}
 Shorter (Some c) bs = length c.rest.now < length bs
-
--- the lines of a script by the bytes before its first line feed and those behind it, if there is one
-abbrev pub parted_lines : List ℕ → Option (Bor (List ℕ)) → List Line
-parted_lines bs (Some rest) = record { bytes = bs; ended = true } ∷ lines rest.now
-parted_lines [] None = []
-parted_lines (b ∷ bs) None = record { bytes = b ∷ bs; ended = false } ∷ lines []
-
--- how many bytes stand from the line feed on
-abbrev pub length_behind : Option (Bor (List ℕ)) → ℕ
-length_behind None = 0
-length_behind (Some rest) = length rest.now + 1

@@ -1,10 +1,8 @@
-ghost use Rattle.std.specs.Prelude.{◌≡◌, drop, length, take};
-ghost use Rattle.std.specs.List.{prefix_len};
-ghost use Rattle.text.specs.Bytes.{is_of};
-ghost use Rattle.text.specs.Tokens.{column_at, from_rest, taken, token_at, unspaced};
+ghost use Rattle.std.specs.Prelude.{◌≡◌, length};
+ghost use Rattle.text.specs.Tokens.{column_at, taken, token_at, unspaced};
 ghost use Rattle.text.specs.Views.{spot, taken_view};
 
-use crate::class::Class;
+use crate::split::split_while;
 use crate::token::Token;
 
 // A place in a line, which moves on as its tokens are taken one by one. It is no iterator: the end of a line is a
@@ -55,24 +53,16 @@ impl<'a> Cursor<'a> {
                 Token::Close { column }
             }
             [b'0'..=b'9', ..] => {
-                let text = self.take_run(Class::Digit);
+                let (text, rest) = split_while(self.rest, u8::is_ascii_digit);
+                self.rest = rest;
                 Token::Number { text, column }
             }
             _ => {
-                let text = self.take_run(Class::Letter);
+                let (text, rest) = split_while(self.rest, u8::is_ascii_lowercase);
+                self.rest = rest;
                 Token::Name { text, column }
             }
         }
-    }
-
-    // The bytes of the class that come first; the place moves behind them.
-    fn take_run(&mut self, class: Class) -> &'a [u8]
-        ensures front { result.now ≡ take (prefix_len (is_of class) self.old.rest.now) self.old.rest.now }
-        ensures behind { spot self.new ≡ from_rest (spot self.old) (drop (prefix_len (is_of class) self.old.rest.now) self.old.rest.now) }
-    {
-        let (run, rest) = class.split(self.rest);
-        self.rest = rest;
-        run
     }
 }
 

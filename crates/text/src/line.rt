@@ -1,11 +1,12 @@
-ghost use Rattle.std.specs.Prelude.{◌≡◌, ◌+◌, length};
+ghost use Rattle.std.specs.Prelude.{◌≡◌, length};
 ghost use Rattle.text.specs.Lines.{lines};
-ghost use Rattle.text.specs.Views.{cut_lines, length_behind, parted_lines, Shorter};
+ghost use Rattle.text.specs.Views.{cut_lines, Shorter};
 
-use crate::class::Class;
+use crate::split::split_while;
 use std::marker::Model;
 
-// A line of a script: its bytes, and whether a line feed ended it.
+// A line of a script: its bytes, and whether a line feed ended it. The flag is no option: the bytes are there either
+// way.
 #[derive(Clone, Copy)]
 pub struct Line<'a> {
     pub bytes: &'a [u8],
@@ -54,7 +55,7 @@ impl<'a> Iterator for Lines<'a> {
 
     // The next line; bytes behind the last line feed are one more.
     fn next(&mut self) -> Option<Line<'a>> {
-        match Class::InLine.split(self.rest()) {
+        match split_while(self.rest(), |byte| *byte != b'\n') {
             (bytes, [_, rest @ ..]) => {
                 *self = Lines::new(rest);
                 Some(Line { bytes, ended: true })
@@ -83,20 +84,12 @@ pub fn first_line<'a>(script: &'a [u8]) -> Option<Cut<'a>>
     ensures lines { cut_lines result ≡ lines script.now }
     ensures shorter { Shorter result script.now }
 {
-    match parted(script) {
-        ([], None) => None,
-        (bytes, None) => Some(Cut {
-            first: Line {
-                bytes,
-                ended: false,
-            },
-            rest: &[],
-        }),
-        (bytes, Some(rest)) => Some(Cut {
-            first: Line { bytes, ended: true },
-            rest,
-        }),
-    }
+    let mut lines = Lines::new(script);
+    let first = lines.next()?;
+    Some(Cut {
+        first,
+        rest: lines.rest(),
+    })
 }
 
 // How many lines a script has; bytes behind the last line feed are one more.
@@ -104,15 +97,4 @@ pub fn line_count(script: &[u8]) -> usize
     ensures { result ≡ length (lines script.now) }
 {
     Lines::new(script).count()
-}
-
-// The bytes before the first line feed, and those behind it, if there is one.
-fn parted<'a>(script: &'a [u8]) -> (&'a [u8], Option<&'a [u8]>)
-    ensures lines { lines script.now ≡ parted_lines result.0.now result.1 }
-    ensures size { length result.0.now + length_behind result.1 ≡ length script.now }
-{
-    match Class::InLine.split(script) {
-        (bytes, [_, rest @ ..]) => (bytes, Some(rest)),
-        (bytes, []) => (bytes, None),
-    }
 }

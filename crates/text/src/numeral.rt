@@ -1,7 +1,8 @@
 ghost use Rattle.std.specs.Prelude.{◌≡◌, ◌+◌, ◌-◌, ◌*◌};
 ghost use Rattle.text.specs.Numerals.{fitting, numeral};
 
-// The number that digits write, if it fits 32 bits.
+// The number that digits write, if it fits 32 bits. The loop is no try_fold: from what that says of a call that broke
+// off, no proof was found that more digits do not help.
 pub fn numeral(digits: &[u8]) -> Option<u32>
     ensures { result ≡ numeral digits.now }
 {

@@ -5,7 +5,6 @@ ghost use Rattle.text.specs.Verdicts.{reached, text_verdict};
 ghost use Rattle.text.specs.declared.place.Place.TheVariants.{Start};
 ghost use Rattle.text.specs.Views.{line_view};
 
-use crate::class::Class;
 use crate::line::Line;
 use crate::text_fault::TextFault;
 
@@ -42,9 +41,9 @@ impl Place {
     {
         match self {
             Place::Start if byte == b'(' => Some(Place::Opened(Depth::Outer)),
-            Place::Opened(depth) if Class::Letter.holds(byte) => Some(Place::InName(depth)),
-            Place::InName(_) if Class::Letter.holds(byte) => Some(self),
-            Place::InNumber(_) if Class::Digit.holds(byte) => Some(self),
+            Place::Opened(depth) if byte.is_ascii_lowercase() => Some(Place::InName(depth)),
+            Place::InName(_) if byte.is_ascii_lowercase() => Some(self),
+            Place::InNumber(_) if byte.is_ascii_digit() => Some(self),
             Place::InName(depth) | Place::InNumber(depth) | Place::Complete(depth) => {
                 ended(depth, byte)
             }
@@ -100,19 +99,13 @@ fn verdict(line: Line<'_>) -> Result<(), TextFault>
 }
 
 // The place to which the bytes lead, or the first that leads nowhere.
+#[tactic(auto, unfolding(crate::specs::Verdicts::reached))]
 fn reached(bytes: &[u8]) -> Result<Place, TextFault>
     ensures { result ≡ reached Start 1 bytes.now }
 {
     let mut place = Place::Start;
-    let mut rest = bytes;
-    let mut column = 1;
-    while let [byte, tail @ ..] = rest {
-        let Some(next) = place.next(*byte) else {
-            return Err(TextFault { column });
-        };
-        place = next;
-        rest = tail;
-        column += 1;
+    for (i, byte) in bytes.iter().enumerate() {
+        place = place.next(*byte).ok_or(TextFault { column: i + 1 })?;
     }
     Ok(place)
 }
