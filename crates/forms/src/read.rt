@@ -56,7 +56,8 @@ fn read_items(head: Head, cursor: &mut Cursor<'_>) -> Result<Form, FormFault>
     }
 }
 
-// The items of a call on a thread, with its closing bracket.
+// The items of a call on a thread, with its closing bracket. A `let` takes the numbers apart: the proof of a closure under
+// `map` that takes an array apart did not close.
 fn read_call(kind: Kind, cursor: &mut Cursor<'_>) -> Result<Call, FormFault>
     ensures { result ≡ call_at kind (spot cursor.old) }
 {
