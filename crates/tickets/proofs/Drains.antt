@@ -1,5 +1,5 @@
 -- How many words a thread has to drain before and after a drain.
-use Rattle.std.proofs.Common.{◌≡◌, ℕ, suc, ◌+◌, ◌-◌, ◌<◌, ◌≤◌, Bool, true, false, cond, eqb, ◌⊎◌, List, [], length, set, Some, None, Ok, Err, Option, Result, refl, ap, ◌∙◌, inl, inr, arith}
+use Rattle.std.proofs.Common.{◌≡◌, ℕ, suc, ◌+◌, ◌-◌, ◌<◌, ◌≤◌, Bool, true, false, cond, eqb, List, [], length, set, Some, None, Ok, Err, Option, Result, refl, ap, ◌∙◌, inl, inr, arith}
 use Rattle.common.specs.declared.refusal.Refusal.{Refusal}
 use Rattle.common.specs.declared.refusal.Refusal.TheVariants.{NoSuchThread, WrongState}
 use Rattle.layout.specs.declared.entries.WriteEntry.{WriteEntry}
@@ -12,8 +12,8 @@ use Rattle.rules.specs.declared.answer.Answer.TheVariants.{Left, Refused}
 use Rattle.rules.specs.declared.kind.Kind.TheVariants.{Drain}
 use Rattle.rules.specs.declared.phase.Phase.{Phase}
 use Rattle.rules.specs.declared.phase.Phase.TheVariants.{Idle, Running, Sealed, Lost}
-use Rattle.std.proofs.lemmas.Option.{slice_get-get_or, slice_get_within}
-use Rattle.std.proofs.lemmas.Bool.{cases_lt, cond-true, eq-eqb, ne_eqb}
+use Rattle.std.proofs.lemmas.Option.{slice_get_cases, slice_get_within}
+use Rattle.std.proofs.lemmas.Bool.{cond-true, eq-eqb, ne_eqb}
 use Rattle.std.specs.List.{slice_get}
 use Rattle.tickets.specs.Drains.{drain_all, drains, left_in, left_of, words_left}
 
@@ -22,12 +22,8 @@ unfolding at put
 at_put_same m n x = cond-true (eqb n n) x (m.fun n) (eq-eqb n n refl)
 
 -- a list that has no element at a place ends before it
-none_past : {A : Type 0} (d : A) (xs : List A) (i : ℕ) → slice_get xs i ≡ None → length xs ≤ i
-none_past d xs i e = go (cases_lt i (length xs))
-  where
-    go : (i < length xs) ⊎ (length xs ≤ i) → length xs ≤ i
-    go (inl h) = let some = slice_get-get_or xs i d h in absurd (cc)
-    go (inr h) = h
+none_past : {A : Type 0} (xs : List A) (i : ℕ) → slice_get xs i ≡ None → length xs ≤ i
+none_past xs i e = elim (slice_get_cases xs i).1 as (λ _. length xs ≤ i) [ inl p ↦ absurd (cc) | inr p ↦ p.0 ]
 
 -- what a drain tells, and the words left before and after it, by its answer
 pub record Counted (before after : ℕ) (o : Outcome) : Type 0 where
@@ -75,7 +71,7 @@ module _ (w : World) (n ticket drained : ℕ) (inside : is_thread w.engine.set_u
       Counted (length log - drained) (words_left (drain_next w n ticket drained (length log) o).after n)
       (drain_next w n ticket drained (length log) o)
   next_counted None e =
-      let end = none_past (record { address = 0; word = 0 }) log drained e in record {
+      let end = none_past log drained e in record {
         told = refl;
         last = λ p. omega (arith, end);
         more = λ k p h. let z : 0 ≡ k = cc in absurd (omega arith);

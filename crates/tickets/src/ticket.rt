@@ -65,7 +65,10 @@ impl IdleTicket {
     pub(crate) fn new(thread: ThreadId) -> IdleTicket
         ensures { result.thread ≡ thread }
     {
-        Ticket { thread, state: Idle }
+        Ticket {
+            thread,
+            state: Idle,
+        }
     }
 }
 
