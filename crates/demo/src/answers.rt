@@ -1,10 +1,34 @@
-use crate::names::Task;
+use crate::names::{Task, Word};
 use common::loss::Loss;
 use common::refusal::Refusal;
 use layout::lock_word::LockWord;
 use rules::answer::Answer;
+use rules::call::Call;
 use rules::ending::{Ending, Sealed};
 use std::fmt;
+
+// What a call does, in words and numbers.
+#[derive(Clone, Copy)]
+pub struct Action(pub Call);
+
+// As in `store speed = 1450`.
+impl fmt::Display for Action {
+    fn fmt<W: fmt::Write>(&self, f: &mut fmt::Formatter<W>) -> fmt::Result {
+        match self.0 {
+            Call::Begin { .. } => write!(f, "begin"),
+            Call::Load { address, .. } => write!(f, "load {}", Word::from(address)),
+            Call::Store { address, word, .. } => write!(
+                f,
+                "store {} = {word}",
+                Word::from(address)
+            ),
+            Call::Seal { .. } => write!(f, "seal"),
+            Call::Drain { .. } => write!(f, "drain"),
+            Call::Back { .. } => write!(f, "back"),
+            Call::Roll => write!(f, "roll"),
+        }
+    }
+}
 
 // The answer of a call, in words and numbers.
 #[derive(Clone, Copy)]
@@ -93,7 +117,7 @@ struct Named(u32);
 impl fmt::Display for Named {
     fn fmt<W: fmt::Write>(&self, f: &mut fmt::Formatter<W>) -> fmt::Result {
         let thread = self.0;
-        match Task::of_thread(thread) {
+        match Task::from(thread) {
             Task::Unknown(_) => write!(f, "thread {thread}"),
             task => write!(f, "the {task} (thread {thread})"),
         }

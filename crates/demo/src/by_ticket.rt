@@ -46,8 +46,7 @@ pub fn show(rt: &HostRuntime) -> io::Result<()> {
 
 // Prints an action of a task with its answer.
 fn tell(rt: &HostRuntime, task: Task, action: &str, answer: Answer) -> io::Result<()> {
-    let who = task.to_string(rt.alloc())?;
-    page::line(rt, who.as_str(), action, Told(answer))
+    page::line(rt, task, action, Told(answer))
 }
 
 // Claims the ticket of a task.
@@ -56,16 +55,27 @@ fn claim<S, P>(
     tasks: &mut Tasks<S, P>,
     task: Task,
 ) -> io::Result<Option<IdleTicket>> {
-    match tasks.claim(task.thread()) {
-        Ok(ticket) => {
-            tell(rt, task, "claim", Answer::Done)?;
-            Ok(Some(ticket))
-        }
-        Err(refusal) => {
-            tell(rt, task, "claim", Answer::Refused(refusal))?;
-            Ok(None)
-        }
-    }
+    let (ticket, answer) = match tasks.claim(task.into()) {
+        Ok(ticket) => (Some(ticket), Answer::Done),
+        Err(refusal) => (None, Answer::Refused(refusal)),
+    };
+    tell(rt, task, "claim", answer)?;
+    Ok(ticket)
+}
+
+// Begins a transaction of a task.
+fn begin<S: WordStore, P: Policy>(
+    rt: &HostRuntime,
+    tasks: &mut Tasks<S, P>,
+    task: Task,
+    idle: IdleTicket,
+) -> io::Result<Option<OpenTicket>> {
+    let (ticket, answer) = match tasks.begin(idle) {
+        Ok(open) => (Some(open), Answer::Done),
+        Err(kept) => (None, Answer::Refused(kept.reason)),
+    };
+    page::call(rt, task.begin(), answer)?;
+    Ok(ticket)
 }
 
 // Changes all three words in one transaction, from the begin to the hand-in.
@@ -78,67 +88,14 @@ fn change<S: WordStore, P: Policy>(
         rt,
         "The keypad begins, stores three words, seals and drains to the end.",
     )?;
-    let open = match tasks.begin(idle) {
-        Ok(open) => open,
-        Err(Kept { ticket: _, reason }) => {
-            return tell(rt, Task::Keypad, "begin", Answer::Refused(reason));
-        }
+    let Some(open) = begin(rt, tasks, Task::Keypad, idle)? else {
+        return Ok(());
     };
-    tell(rt, Task::Keypad, "begin", Answer::Done)?;
-    store(rt, tasks, &open, Word::Ramp, FACTORY.ramp)?;
-    store(rt, tasks, &open, Word::Speed, FACTORY.speed)?;
-    store(rt, tasks, &open, Word::CurrentLimit, FACTORY.current_limit)?;
-    seal(rt, tasks, open)
-}
-
-// Stores a word of the keypad's transaction.
-fn store<S: WordStore, P: Policy>(
-    rt: &HostRuntime,
-    tasks: &mut Tasks<S, P>,
-    open: &OpenTicket,
-    word: Word,
-    value: u32,
-) -> io::Result<()> {
-    let answer = Answer::from(tasks.store(open, word.address(), value));
-    let action = format!(in rt.alloc(); "store {word} = {value}")?;
-    tell(rt, Task::Keypad, action.as_str(), answer)
-}
-
-// Seals the keypad's transaction, drains it to the end and hands the ticket in.
-fn seal<S: WordStore, P: Policy>(
-    rt: &HostRuntime,
-    tasks: &mut Tasks<S, P>,
-    open: OpenTicket,
-) -> io::Result<()> {
-    match tasks.seal(open) {
-        Ok(Sealing::Updater { ticket, number }) => {
-            let drained = tasks.drain_all(ticket);
-            let sealed = Sealed::Updater { ticket: number };
-            tell(rt, Task::Keypad, "seal", Answer::Sealed(sealed))?;
-            match drained {
-                Ok(idle) => {
-                    tell(rt, Task::Keypad, "drain to the end", Answer::Left(0))?;
-                    tasks.hand_in(idle);
-                    tell(rt, Task::Keypad, "hand in", Answer::Done)
-                }
-                Err(kept) => tell(rt, Task::Keypad, "drain", Answer::Refused(kept.reason)),
-            }
-        }
-        Ok(
-            Sealing::Reader {
-                ticket: _,
-                snapshot,
-            },
-        ) => {
-            tell(
-                rt,
-                Task::Keypad,
-                "seal",
-                Answer::Sealed(Sealed::Reader { snapshot }),
-            )
-        }
-        Err(kept) => tell(rt, Task::Keypad, "seal", Answer::from(kept.reason)),
+    for (word, value) in FACTORY.words() {
+        let answer = Answer::from(tasks.store(&open, word.into(), value));
+        page::call(rt, Task::Keypad.store(word, value), answer)?;
     }
+    seal(rt, tasks, Task::Keypad, open)
 }
 
 // The loop reads two words; the same ticket in another drive is refused there.
@@ -148,42 +105,53 @@ fn read<S: WordStore, P: Policy>(
     other: &mut Tasks<S, P>,
     idle: IdleTicket,
 ) -> io::Result<()> {
-    let open = match tasks.begin(idle) {
-        Ok(open) => open,
-        Err(kept) => return tell(rt, Task::ControlLoop, "begin", Answer::Refused(kept.reason)),
+    let Some(open) = begin(rt, tasks, Task::ControlLoop, idle)? else {
+        return Ok(());
     };
-    tell(rt, Task::ControlLoop, "begin", Answer::Done)?;
-    let speed = tasks.load(&open, Word::Speed.address());
-    tell(rt, Task::ControlLoop, "load speed", Answer::from(speed))?;
-    let elsewhere = other.load(&open, Word::Speed.address());
-    tell(
-        rt,
-        Task::ControlLoop,
-        "load in the other drive",
-        Answer::from(elsewhere),
-    )?;
-    let limit = tasks.load(&open, Word::CurrentLimit.address());
-    tell(
-        rt,
-        Task::ControlLoop,
-        "load current limit",
-        Answer::from(limit),
-    )?;
-    match tasks.seal(open) {
+    load(rt, tasks, &open, Word::Speed)?;
+    let elsewhere = Answer::from(other.load(&open, Word::Speed.into()));
+    tell(rt, Task::ControlLoop, "load in the other drive", elsewhere)?;
+    load(rt, tasks, &open, Word::CurrentLimit)?;
+    seal(rt, tasks, Task::ControlLoop, open)
+}
+
+// Loads a word in the loop's transaction.
+fn load<S: WordStore, P: Policy>(
+    rt: &HostRuntime,
+    tasks: &mut Tasks<S, P>,
+    open: &OpenTicket,
+    word: Word,
+) -> io::Result<()> {
+    let answer = Answer::from(tasks.load(open, word.into()));
+    page::call(rt, Task::ControlLoop.load(word), answer)
+}
+
+// Seals a task's transaction, drains it to the end if it stored something, and hands the ticket in.
+fn seal<S: WordStore, P: Policy>(
+    rt: &HostRuntime,
+    tasks: &mut Tasks<S, P>,
+    task: Task,
+    open: OpenTicket,
+) -> io::Result<()> {
+    let idle = match tasks.seal(open) {
+        Ok(Sealing::Updater { ticket, number }) => {
+            let drained = tasks.drain_all(ticket);
+            let sealed = Sealed::Updater { ticket: number };
+            page::call(rt, task.seal(), Answer::Sealed(sealed))?;
+            let (idle, answer) = match drained {
+                Ok(idle) => (idle, Answer::Left(0)),
+                Err(Kept { ticket, reason }) => (ticket, Answer::Refused(reason)),
+            };
+            tell(rt, task, "drain to the end", answer)?;
+            idle
+        }
         Ok(Sealing::Reader { ticket, snapshot }) => {
-            tell(
-                rt,
-                Task::ControlLoop,
-                "seal",
-                Answer::Sealed(Sealed::Reader { snapshot }),
-            )?;
-            tasks.hand_in(ticket);
-            tell(rt, Task::ControlLoop, "hand in", Answer::Done)
+            let sealed = Sealed::Reader { snapshot };
+            page::call(rt, task.seal(), Answer::Sealed(sealed))?;
+            ticket
         }
-        Ok(Sealing::Updater { ticket, number: _ }) => {
-            let _ = tasks.drain_all(ticket);
-            Ok(())
-        }
-        Err(kept) => tell(rt, Task::ControlLoop, "seal", Answer::from(kept.reason)),
-    }
+        Err(kept) => return page::call(rt, task.seal(), Answer::from(kept.reason)),
+    };
+    tasks.hand_in(idle);
+    tell(rt, task, "hand in", Answer::Done)
 }

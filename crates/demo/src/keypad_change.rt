@@ -31,7 +31,7 @@ pub fn show(rt: &HostRuntime) -> io::Result<()> {
     let mut cells = [0; WORDS];
     let mut drive = Drive::new(rt, set_up, PlainStore::new(&mut cells), Suicide);
     let shown = all_old_or_all_new(&mut drive);
-    drive.end();
+    drop(drive);
     shown?;
     println!(rt; "\nThe cells of the plain store: {cells:?}\n")
 }
@@ -50,41 +50,42 @@ fn all_old_or_all_new<S: WordStore, P: Policy>(drive: &mut Drive<'_, S, P>) -> i
 // Until the keypad seals, nobody sees its words.
 fn old_before_the_seal<S: WordStore, P: Policy>(drive: &mut Drive<'_, S, P>) -> io::Result<()> {
     drive.note("During the change, before its seal: the loop still has all old words.")?;
-    drive.begin(Task::Keypad)?;
-    drive.begin(Task::ControlLoop)?;
+    drive.make(&[Task::Keypad.begin(), Task::ControlLoop.begin()])?;
     drive.load_all(Task::ControlLoop)?;
     drive.store_all(Task::Keypad, FASTER)?;
-    drive.seal(Task::ControlLoop)?;
+    drive.make(&[Task::ControlLoop.seal()])?;
     drive.note("The loop asks again before the seal, meets the keypad and gives way.")?;
-    drive.begin(Task::ControlLoop)?;
-    drive.load(Task::ControlLoop, Word::Ramp)?;
-    drive.back(Task::ControlLoop)
+    drive.make(&[
+        Task::ControlLoop.begin(),
+        Task::ControlLoop.load(Word::Ramp),
+        Task::ControlLoop.back(),
+    ])
 }
 
 // From the seal to the last drain the words are refused, and from then on they are new.
 fn busy_until_drained<S: WordStore, P: Policy>(drive: &mut Drive<'_, S, P>) -> io::Result<()> {
     drive.note("Between the seal and the last drain the loop is refused, and tries again.")?;
-    drive.seal(Task::Keypad)?;
-    drive.begin(Task::ControlLoop)?;
-    drive.load(Task::ControlLoop, Word::Ramp)?;
-    drive.drain(Task::Keypad)?;
-    drive.load(Task::ControlLoop, Word::Ramp)?;
-    drive.drain(Task::Keypad)?;
-    drive.load(Task::ControlLoop, Word::Ramp)?;
-    drive.drain(Task::Keypad)?;
+    drive.make(&[Task::Keypad.seal(), Task::ControlLoop.begin()])?;
+    for _ in 0..WORDS {
+        drive.make(&[Task::ControlLoop.load(Word::Ramp), Task::Keypad.drain()])?;
+    }
     drive.note("After the change: the loop reads the new words.")?;
     drive.load_all(Task::ControlLoop)?;
-    drive.seal(Task::ControlLoop)
+    drive.make(&[Task::ControlLoop.seal()])
 }
 
 // A loop that has read an old word meets a new one: it is lost, goes back and reads the new ones.
 fn overtaken<S: WordStore, P: Policy>(drive: &mut Drive<'_, S, P>) -> io::Result<()> {
     drive.note("The loop has read one old word when the keypad changes all three.")?;
-    drive.begin(Task::ControlLoop)?;
-    drive.load(Task::ControlLoop, Word::Ramp)?;
+    drive.make(&[
+        Task::ControlLoop.begin(),
+        Task::ControlLoop.load(Word::Ramp),
+    ])?;
     drive.change(Task::Keypad, SLOWER)?;
     drive.note("The next word would be a new one: the loop is lost, goes back and reads again.")?;
-    drive.load(Task::ControlLoop, Word::Speed)?;
-    drive.back(Task::ControlLoop)?;
+    drive.make(&[
+        Task::ControlLoop.load(Word::Speed),
+        Task::ControlLoop.back(),
+    ])?;
     drive.read(Task::ControlLoop)
 }

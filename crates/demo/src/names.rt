@@ -1,3 +1,4 @@
+use rules::call::Call;
 use std::fmt;
 
 // A task of the drive, by the number of its thread.
@@ -13,9 +14,9 @@ pub enum Task {
     Unknown(u32),
 }
 
-impl Task {
-    // The task of a thread.
-    pub fn of_thread(thread: u32) -> Task {
+// The task of a thread.
+impl From<u32> for Task {
+    fn from(thread: u32) -> Task {
         match thread {
             1 => Task::Keypad,
             2 => Task::ControlLoop,
@@ -23,10 +24,12 @@ impl Task {
             _ => Task::Unknown(thread),
         }
     }
+}
 
-    // The number of its thread.
-    pub fn thread(self) -> u32 {
-        match self {
+// The thread of a task.
+impl From<Task> for u32 {
+    fn from(task: Task) -> u32 {
+        match task {
             Task::Keypad => 1,
             Task::ControlLoop => 2,
             Task::Fieldbus => 3,
@@ -47,6 +50,54 @@ impl fmt::Display for Task {
     }
 }
 
+// The calls of a task.
+impl Task {
+    // It begins a transaction.
+    pub fn begin(self) -> Call {
+        Call::Begin {
+            thread: self.into(),
+        }
+    }
+
+    // Its transaction loads a word.
+    pub fn load(self, word: Word) -> Call {
+        Call::Load {
+            thread: self.into(),
+            address: word.into(),
+        }
+    }
+
+    // Its transaction stores a value at a word.
+    pub fn store(self, word: Word, value: u32) -> Call {
+        Call::Store {
+            thread: self.into(),
+            address: word.into(),
+            word: value,
+        }
+    }
+
+    // Its transaction is sealed.
+    pub fn seal(self) -> Call {
+        Call::Seal {
+            thread: self.into(),
+        }
+    }
+
+    // Its next word is drained.
+    pub fn drain(self) -> Call {
+        Call::Drain {
+            thread: self.into(),
+        }
+    }
+
+    // It goes back from its transaction.
+    pub fn back(self) -> Call {
+        Call::Back {
+            thread: self.into(),
+        }
+    }
+}
+
 // A word that the tasks share, by its address.
 #[derive(Clone, Copy)]
 pub enum Word {
@@ -60,9 +111,9 @@ pub enum Word {
     Unknown(u32),
 }
 
-impl Word {
-    // The word at an address.
-    pub fn at(address: u32) -> Word {
+// The word at an address.
+impl From<u32> for Word {
+    fn from(address: u32) -> Word {
         match address {
             0 => Word::Ramp,
             1 => Word::Speed,
@@ -70,10 +121,12 @@ impl Word {
             _ => Word::Unknown(address),
         }
     }
+}
 
-    // Its address.
-    pub fn address(self) -> u32 {
-        match self {
+// The address of a word.
+impl From<Word> for u32 {
+    fn from(word: Word) -> u32 {
+        match word {
             Word::Ramp => 0,
             Word::Speed => 1,
             Word::CurrentLimit => 2,
@@ -100,6 +153,17 @@ pub struct Settings {
     pub ramp: u32,
     pub speed: u32,
     pub current_limit: u32,
+}
+
+impl Settings {
+    // The words with their values, in the order of their addresses.
+    pub fn words(self) -> [(Word, u32); WORDS] {
+        [
+            (Word::Ramp, self.ramp),
+            (Word::Speed, self.speed),
+            (Word::CurrentLimit, self.current_limit),
+        ]
+    }
 }
 
 // How many words there are.

@@ -30,7 +30,7 @@ pub fn show(rt: &HostRuntime) -> io::Result<()> {
     let store = RegisterStore::new(&mut registers);
     let mut drive = Drive::new(rt, set_up, store, Aggressive);
     let shown = taken_at_once(&mut drive);
-    drive.end();
+    drop(drive);
     shown?;
     println!(rt; "\nThe registers, two to a word: {registers:?}\n")
 }
@@ -42,30 +42,37 @@ fn taken_at_once<S: WordStore, P: Policy>(drive: &mut Drive<'_, S, P>) -> io::Re
     park(drive)?;
     drive.peek_at(Word::Speed)?;
     drive.note("The fieldbus wants the same word, and wins.")?;
-    drive.begin(Task::Fieldbus)?;
-    drive.store(Task::Fieldbus, Word::Speed, FIELDBUS_SPEED)?;
+    drive.make(&[
+        Task::Fieldbus.begin(),
+        Task::Fieldbus.store(Word::Speed, FIELDBUS_SPEED),
+    ])?;
     drive.peek_at(Word::Speed)?;
-    drive.seal(Task::Fieldbus)?;
-    drive.drain(Task::Fieldbus)?;
+    drive.make(&[Task::Fieldbus.seal(), Task::Fieldbus.drain()])?;
     wake(drive)?;
     drive.note("The keypad begins again.")?;
-    drive.begin(Task::Keypad)?;
-    drive.store(Task::Keypad, Word::Speed, KEYPAD_SPEED)?;
-    drive.seal(Task::Keypad)?;
-    drive.drain(Task::Keypad)
+    drive.make(&[
+        Task::Keypad.begin(),
+        Task::Keypad.store(Word::Speed, KEYPAD_SPEED),
+        Task::Keypad.seal(),
+        Task::Keypad.drain(),
+    ])
 }
 
 // The keypad stores a word, holds its stripe and stops.
 pub fn park<S: WordStore, P: Policy>(drive: &mut Drive<'_, S, P>) -> io::Result<()> {
     drive.note("The keypad stores a word, holds its stripe and is parked.")?;
-    drive.begin(Task::Keypad)?;
-    drive.store(Task::Keypad, Word::Speed, KEYPAD_SPEED)
+    drive.make(&[
+        Task::Keypad.begin(),
+        Task::Keypad.store(Word::Speed, KEYPAD_SPEED),
+    ])
 }
 
 // The keypad goes on with a transaction that was lost meanwhile.
 pub fn wake<S: WordStore, P: Policy>(drive: &mut Drive<'_, S, P>) -> io::Result<()> {
     drive.note("The keypad wakes up: its transaction is lost, and it goes back.")?;
-    drive.store(Task::Keypad, Word::Ramp, KEYPAD_RAMP)?;
-    drive.seal(Task::Keypad)?;
-    drive.back(Task::Keypad)
+    drive.make(&[
+        Task::Keypad.store(Word::Ramp, KEYPAD_RAMP),
+        Task::Keypad.seal(),
+        Task::Keypad.back(),
+    ])
 }

@@ -29,7 +29,7 @@ pub fn show(rt: &HostRuntime) -> io::Result<()> {
     let window = Window::new(PlainStore::new(&mut cells), BASE, WORDS as u32);
     let mut drive = Drive::new(rt, set_up, window, Karma::new());
     let shown = earned(&mut drive);
-    drive.end();
+    drop(drive);
     shown?;
     println!(rt; "\nThe cells, {WORDS} of them in the window from cell {BASE} on: {cells:?}\n")
 }
@@ -42,39 +42,32 @@ fn earned<S: WordStore, P: Policy>(drive: &mut Drive<'_, S, P>) -> io::Result<()
     drive.note(
         "The keypad has 10 points for the stripe, the fieldbus none: the fieldbus is lost.",
     )?;
-    drive.begin(Task::Fieldbus)?;
-    want_speed(drive)?;
-    drive.back(Task::Fieldbus)?;
+    want_speed(drive, 0)?;
+    drive.make(&[Task::Fieldbus.back()])?;
     drive.note("Six loads, six points, still below 10: it is lost again, and keeps its points.")?;
-    drive.begin(Task::Fieldbus)?;
-    earn(drive)?;
-    want_speed(drive)?;
-    drive.back(Task::Fieldbus)?;
+    want_speed(drive, 3)?;
+    drive.make(&[Task::Fieldbus.back()])?;
     drive.note("Six more, and 12 points are ahead of 10: the fieldbus wins.")?;
-    drive.begin(Task::Fieldbus)?;
-    earn(drive)?;
-    want_speed(drive)?;
+    want_speed(drive, 3)?;
     finish(drive)
 }
 
-// The fieldbus asks for the word that the keypad holds.
-fn want_speed<S: WordStore, P: Policy>(drive: &mut Drive<'_, S, P>) -> io::Result<()> {
-    drive.store(Task::Fieldbus, Word::Speed, FIELDBUS_SPEED)
-}
-
-// The fieldbus loads the other two words three times, which counts 6.
-fn earn<S: WordStore, P: Policy>(drive: &mut Drive<'_, S, P>) -> io::Result<()> {
-    for _ in 0..3 {
-        drive.load(Task::Fieldbus, Word::Ramp)?;
-        drive.load(Task::Fieldbus, Word::CurrentLimit)?;
+// The fieldbus begins, loads the other two words this often, which counts 2 each time, and asks for the word that the
+// keypad holds.
+fn want_speed<S: WordStore, P: Policy>(drive: &mut Drive<'_, S, P>, rounds: u32) -> io::Result<()> {
+    drive.make(&[Task::Fieldbus.begin()])?;
+    for _ in 0..rounds {
+        drive.make(&[
+            Task::Fieldbus.load(Word::Ramp),
+            Task::Fieldbus.load(Word::CurrentLimit),
+        ])?;
     }
-    Ok(())
+    drive.make(&[Task::Fieldbus.store(Word::Speed, FIELDBUS_SPEED)])
 }
 
 // The keypad learns of its loss, and the fieldbus seals.
 fn finish<S: WordStore, P: Policy>(drive: &mut Drive<'_, S, P>) -> io::Result<()> {
     wake(drive)?;
     drive.note("The fieldbus seals its change.")?;
-    drive.seal(Task::Fieldbus)?;
-    drive.drain(Task::Fieldbus)
+    drive.make(&[Task::Fieldbus.seal(), Task::Fieldbus.drain()])
 }

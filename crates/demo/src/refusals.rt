@@ -20,7 +20,7 @@ pub fn show(rt: &HostRuntime) -> io::Result<()> {
     let mut cells = [0; WORDS];
     let mut drive = Drive::new(rt, set_up, PlainStore::new(&mut cells), Suicide);
     let shown = calls(&mut drive);
-    drive.end();
+    drop(drive);
     shown?;
     page::note(
         rt,
@@ -32,31 +32,22 @@ pub fn show(rt: &HostRuntime) -> io::Result<()> {
 // A set-up within the limits, and four with one number beyond them.
 fn set_ups(rt: &HostRuntime) -> io::Result<()> {
     page::note(rt, "Set-ups.")?;
-    try_set_up(
-        rt,
-        "set up 3 threads, 4 stripes",
-        SetUp::new(THREADS, STRIPES, SHIFT, CLOCK_LIMIT),
-    )?;
-    try_set_up(
-        rt,
-        "set up 9 threads",
-        SetUp::new(9, STRIPES, SHIFT, CLOCK_LIMIT),
-    )?;
-    try_set_up(
-        rt,
-        "set up 3 stripes",
-        SetUp::new(THREADS, 3, SHIFT, CLOCK_LIMIT),
-    )?;
-    try_set_up(
-        rt,
-        "set up shift 9",
-        SetUp::new(THREADS, STRIPES, 9, CLOCK_LIMIT),
-    )?;
-    try_set_up(
-        rt,
-        "set up clock limit 0",
-        SetUp::new(THREADS, STRIPES, SHIFT, 0),
-    )
+    for (action, threads, stripes, shift, limit) in [
+        (
+            "set up 3 threads, 4 stripes",
+            THREADS,
+            STRIPES,
+            SHIFT,
+            CLOCK_LIMIT,
+        ),
+        ("set up 9 threads", 9, STRIPES, SHIFT, CLOCK_LIMIT),
+        ("set up 3 stripes", THREADS, 3, SHIFT, CLOCK_LIMIT),
+        ("set up shift 9", THREADS, STRIPES, 9, CLOCK_LIMIT),
+        ("set up clock limit 0", THREADS, STRIPES, SHIFT, 0),
+    ] {
+        try_set_up(rt, action, SetUp::new(threads, stripes, shift, limit))?;
+    }
+    Ok(())
 }
 
 // Calls that are refused, and a lock word.
@@ -64,9 +55,11 @@ fn calls<S: WordStore, P: Policy>(drive: &mut Drive<'_, S, P>) -> io::Result<()>
     drive.note("The keypad gives the words their first values.")?;
     drive.change(Task::Keypad, FACTORY)?;
     drive.note("Threads that the drive does not have.")?;
-    drive.begin(Task::Unknown(0))?;
-    drive.begin(Task::Unknown(4))?;
-    drive.begin(Task::Unknown(9))?;
+    drive.make(&[
+        Task::Unknown(0).begin(),
+        Task::Unknown(4).begin(),
+        Task::Unknown(9).begin(),
+    ])?;
     states(drive)?;
     places(drive)?;
     lock_words(drive)
@@ -75,10 +68,12 @@ fn calls<S: WordStore, P: Policy>(drive: &mut Drive<'_, S, P>) -> io::Result<()>
 // Calls in a state that they are not for.
 fn states<S: WordStore, P: Policy>(drive: &mut Drive<'_, S, P>) -> io::Result<()> {
     drive.note("A load without a begin, a begin while running, a drain without a seal.")?;
-    drive.load(Task::ControlLoop, Word::Speed)?;
-    drive.begin(Task::ControlLoop)?;
-    drive.begin(Task::ControlLoop)?;
-    drive.drain(Task::ControlLoop)
+    drive.make(&[
+        Task::ControlLoop.load(Word::Speed),
+        Task::ControlLoop.begin(),
+        Task::ControlLoop.begin(),
+        Task::ControlLoop.drain(),
+    ])
 }
 
 // Addresses at and beyond the size; the transaction goes on.
@@ -86,19 +81,23 @@ fn places<S: WordStore, P: Policy>(drive: &mut Drive<'_, S, P>) -> io::Result<()
     drive.note(
         "The address at the size and the largest one; the transaction goes on, and is given up.",
     )?;
-    drive.load(Task::ControlLoop, Word::Unknown(WORDS as u32))?;
-    drive.store(Task::ControlLoop, Word::Unknown(u32::MAX), 1)?;
-    drive.load(Task::ControlLoop, Word::Speed)?;
-    drive.back(Task::ControlLoop)
+    drive.make(&[
+        Task::ControlLoop.load(Word::Unknown(WORDS as u32)),
+        Task::ControlLoop.store(Word::Unknown(u32::MAX), 1),
+        Task::ControlLoop.load(Word::Speed),
+        Task::ControlLoop.back(),
+    ])
 }
 
 // The lock word of a stripe with and without an owner, and of one that is not there.
 fn lock_words<S: WordStore, P: Policy>(drive: &mut Drive<'_, S, P>) -> io::Result<()> {
     drive.note("The lock word of the speed, free and held, and a stripe beyond the count.")?;
     drive.peek_at(Word::Speed)?;
-    drive.begin(Task::Fieldbus)?;
-    drive.store(Task::Fieldbus, Word::Speed, FACTORY.speed)?;
+    drive.make(&[
+        Task::Fieldbus.begin(),
+        Task::Fieldbus.store(Word::Speed, FACTORY.speed),
+    ])?;
     drive.peek_at(Word::Speed)?;
     drive.peek(STRIPES)?;
-    drive.back(Task::Fieldbus)
+    drive.make(&[Task::Fieldbus.back()])
 }

@@ -1,4 +1,3 @@
-use crate::answers::Told;
 use crate::drive::{SHIFT, STRIPES, THREADS};
 use crate::names::{Task, WORDS, Word};
 use crate::page;
@@ -7,114 +6,18 @@ use history::run::run;
 use history::turn::Turn;
 use layout::set_up::SetUp;
 use rules::call::Call;
+use std::alloc::AllocError;
 use std::io;
 use stores::plain::PlainStore;
 
 // A clock that is spent after three changes.
 const CLOCK_LIMIT: u32 = 3;
 
-const KEYPAD: u32 = 1;
-
-const CONTROL_LOOP: u32 = 2;
-
-const FIELDBUS: u32 = 3;
-
-const SPEED: u32 = 1;
-
-// The calls, from the first change to the first one after the roll.
-const CALLS: [Call; 34] = [
-    Call::Begin { thread: KEYPAD },
-    Call::Store {
-        thread: KEYPAD,
-        address: SPEED,
-        word: 1210,
-    },
-    Call::Seal { thread: KEYPAD },
-    Call::Drain { thread: KEYPAD },
-    Call::Roll,
-    Call::Begin {
-        thread: CONTROL_LOOP,
-    },
-    Call::Load {
-        thread: CONTROL_LOOP,
-        address: SPEED,
-    },
-    Call::Begin { thread: KEYPAD },
-    Call::Store {
-        thread: KEYPAD,
-        address: SPEED,
-        word: 1220,
-    },
-    Call::Seal { thread: KEYPAD },
-    Call::Drain { thread: KEYPAD },
-    Call::Begin { thread: KEYPAD },
-    Call::Store {
-        thread: KEYPAD,
-        address: SPEED,
-        word: 1230,
-    },
-    Call::Seal { thread: KEYPAD },
-    Call::Drain { thread: KEYPAD },
-    Call::Begin { thread: KEYPAD },
-    Call::Store {
-        thread: KEYPAD,
-        address: SPEED,
-        word: 1240,
-    },
-    Call::Seal { thread: KEYPAD },
-    Call::Begin { thread: FIELDBUS },
-    Call::Roll,
-    Call::Back { thread: KEYPAD },
-    Call::Roll,
-    Call::Back {
-        thread: CONTROL_LOOP,
-    },
-    Call::Roll,
-    Call::Begin {
-        thread: CONTROL_LOOP,
-    },
-    Call::Load {
-        thread: CONTROL_LOOP,
-        address: SPEED,
-    },
-    Call::Seal {
-        thread: CONTROL_LOOP,
-    },
-    Call::Begin { thread: KEYPAD },
-    Call::Store {
-        thread: KEYPAD,
-        address: SPEED,
-        word: 1240,
-    },
-    Call::Seal { thread: KEYPAD },
-    Call::Drain { thread: KEYPAD },
-    Call::Begin {
-        thread: CONTROL_LOOP,
-    },
-    Call::Load {
-        thread: CONTROL_LOOP,
-        address: SPEED,
-    },
-    Call::Seal {
-        thread: CONTROL_LOOP,
-    },
-];
-
-// What is said before the call at this place.
-fn note(place: usize) -> Option<&'static str> {
-    match place {
-        0 => Some("The keypad presses Up: one change."),
-        4 => Some("A roll is not due yet."),
-        5 => Some("The loop begins at ticket 1, and stays."),
-        7 => Some("The keypad keeps pressing Up."),
-        15 => Some("The clock is spent: the next change is lost, and the roll mark is on."),
-        18 => Some("Nobody begins any more, and the roll waits for those under way."),
-        22 => Some("The loop from before goes back as well, and the clock starts anew."),
-        24 => Some(
-            "No version outlived the roll: the loop reads as of 0, and the first change has ticket 1.",
-        ),
-        _ => None,
-    }
+// A call, and what is said before it.
+#[derive(Clone, Copy)]
+struct Step {
+    note: Option<&'static str>,
+    call: Call,
 }
 
 // The clock is spent and rolls over; the calls are made as one list.
@@ -128,45 +31,113 @@ pub fn show(rt: &HostRuntime) -> io::Result<()> {
         return Err(io::Error::other("the set-up is refused"));
     };
     let mut cells = [0; WORDS];
-    let mut turns = [Turn {
-        call: Call::Roll,
-        answer: None,
-    }; CALLS.len()];
-    for (turn, call) in turns.iter_mut().zip(CALLS.iter()) {
-        turn.call = *call;
-    }
+    let mut steps = Vec::new(rt.alloc());
+    until_spent(&mut steps)?;
+    until_rolled(&mut steps)?;
+    let mut turns = steps
+        .iter()
+        .map(|step| Turn {
+            call: step.call,
+            answer: None,
+        })
+        .collect::<Vec<_>>(rt.alloc())?;
     let _ = run(set_up, PlainStore::new(&mut cells), Suicide, &mut turns);
-    for (place, turn) in turns.iter().enumerate() {
-        if let Some(text) = note(place) {
-            page::note(rt, text)?;
+    for (step, turn) in steps.iter().zip(turns.iter()) {
+        if let Some(note) = step.note {
+            page::note(rt, note)?;
         }
-        show_turn(rt, *turn)?;
+        if let Some(answer) = turn.answer {
+            page::call(rt, turn.call, answer)?;
+        }
     }
     println!(rt; "\nThe cells of the plain store: {cells:?}")
 }
 
-// Prints a call of the list with its answer.
-fn show_turn(rt: &HostRuntime, turn: Turn) -> io::Result<()> {
-    let heap = rt.alloc();
-    let Some(answer) = turn.answer else {
-        return Ok(());
-    };
-    let (who, action) = match turn.call {
-        Call::Begin { thread } => (thread, format!(in heap; "begin")?),
-        Call::Load { thread, address } => (thread, format!(in heap; "load {}", Word::at(address))?),
-        Call::Store {
-            thread,
-            address,
-            word,
-        } => (
-            thread,
-            format!(in heap; "store {} = {word}", Word::at(address))?,
+// Changes until the clock is at its limit, beside a loop that reads.
+fn until_spent(steps: &mut Vec<Step>) -> Result<(), AllocError> {
+    let (keypad, control) = (Task::Keypad, Task::ControlLoop);
+    add(
+        steps,
+        Some("The keypad presses Up: one change."),
+        &change(1210),
+    )?;
+    add(steps, Some("A roll is not due yet."), &[Call::Roll])?;
+    add(
+        steps,
+        Some("The loop begins at ticket 1, and stays."),
+        &[control.begin(), control.load(Word::Speed)],
+    )?;
+    add(steps, Some("The keypad keeps pressing Up."), &change(1220))?;
+    add(steps, None, &change(1230))?;
+    add(
+        steps,
+        Some("The clock is spent: the next change is lost, and the roll mark is on."),
+        &[
+            keypad.begin(),
+            keypad.store(Word::Speed, 1240),
+            keypad.seal(),
+        ],
+    )
+}
+
+// The roll, and what is read and changed after it.
+fn until_rolled(steps: &mut Vec<Step>) -> Result<(), AllocError> {
+    let (keypad, control) = (Task::Keypad, Task::ControlLoop);
+    add(
+        steps,
+        Some("Nobody begins any more, and the roll waits for those under way."),
+        &[
+            Task::Fieldbus.begin(),
+            Call::Roll,
+            keypad.back(),
+            Call::Roll,
+        ],
+    )?;
+    add(
+        steps,
+        Some("The loop from before goes back as well, and the clock starts anew."),
+        &[control.back(), Call::Roll],
+    )?;
+    add(
+        steps,
+        Some(
+            "No version outlived the roll: the loop reads as of 0, and the first change has ticket 1.",
         ),
-        Call::Seal { thread } => (thread, format!(in heap; "seal")?),
-        Call::Drain { thread } => (thread, format!(in heap; "drain")?),
-        Call::Back { thread } => (thread, format!(in heap; "back")?),
-        Call::Roll => return page::line(rt, "service", "roll", Told(answer)),
-    };
-    let who = Task::of_thread(who).to_string(heap)?;
-    page::line(rt, who.as_str(), action.as_str(), Told(answer))
+        &read(),
+    )?;
+    add(steps, None, &change(1240))?;
+    add(steps, None, &read())
+}
+
+// Adds calls, with what is said before the first of them.
+fn add(
+    steps: &mut Vec<Step>,
+    note: Option<&'static str>,
+    calls: &[Call],
+) -> Result<(), AllocError> {
+    let mut note = note;
+    for call in calls {
+        steps.push(Step {
+            note: note.take(),
+            call: *call,
+        })?;
+    }
+    Ok(())
+}
+
+// A change of the speed by the keypad, to its last drain.
+fn change(speed: u32) -> [Call; 4] {
+    let keypad = Task::Keypad;
+    [
+        keypad.begin(),
+        keypad.store(Word::Speed, speed),
+        keypad.seal(),
+        keypad.drain(),
+    ]
+}
+
+// A transaction in which the loop reads the speed.
+fn read() -> [Call; 3] {
+    let control = Task::ControlLoop;
+    [control.begin(), control.load(Word::Speed), control.seal()]
 }

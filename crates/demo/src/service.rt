@@ -1,15 +1,12 @@
 use crate::answers::{Lock, Told};
 use crate::drive::Drive;
 use crate::names::Word;
-use crate::page;
+use crate::page::{self, SERVICE};
 use common::refusal::Refusal;
 use layout::lock_word::LockWord;
 use layout::set_up::SetUp;
 use rules::answer::Answer;
 use std::io;
-
-// The name under which the engineer acts who watches the drive.
-const SERVICE: &str = "service";
 
 impl<'a, S, P> Drive<'a, S, P> {
     // Shows the lock word of a stripe, and takes it apart.
@@ -17,16 +14,16 @@ impl<'a, S, P> Drive<'a, S, P> {
         let action = format!(in self.rt.alloc(); "peek stripe {stripe}")?;
         match self.memory.peek(stripe) {
             Ok(bits) => {
-                page::line(self.rt, SERVICE, action.as_str(), bits)?;
+                page::line(self.rt, SERVICE, action, bits)?;
                 take_apart(self.rt, bits)
             }
-            Err(refusal) => refuse(self.rt, action.as_str(), refusal),
+            Err(refusal) => page::line(self.rt, SERVICE, action, Told(Answer::Refused(refusal))),
         }
     }
 
     // Shows the lock word of the stripe that guards a word.
     pub fn peek_at(&mut self, word: Word) -> io::Result<()> {
-        let stripe = self.set_up.stripe_of(word.address());
+        let stripe = self.set_up.stripe_of(word.into());
         self.peek(stripe.number())
     }
 }
@@ -35,20 +32,13 @@ impl<'a, S, P> Drive<'a, S, P> {
 pub fn take_apart(rt: &HostRuntime, bits: u64) -> io::Result<()> {
     let action = format!(in rt.alloc(); "unpack {bits}")?;
     match LockWord::try_from(bits) {
-        Ok(word) => page::line(rt, SERVICE, action.as_str(), Lock(word)),
-        Err(refusal) => refuse(rt, action.as_str(), refusal),
+        Ok(word) => page::line(rt, SERVICE, action, Lock(word)),
+        Err(refusal) => page::line(rt, SERVICE, action, Told(Answer::Refused(refusal))),
     }
 }
 
 // Shows whether a set-up is taken.
 pub fn try_set_up(rt: &HostRuntime, action: &str, made: Result<SetUp, Refusal>) -> io::Result<()> {
-    match made {
-        Ok(_) => page::line(rt, SERVICE, action, Told(Answer::Done)),
-        Err(refusal) => refuse(rt, action, refusal),
-    }
-}
-
-// Shows that an action was refused.
-fn refuse(rt: &HostRuntime, action: &str, refusal: Refusal) -> io::Result<()> {
-    page::line(rt, SERVICE, action, Told(Answer::Refused(refusal)))
+    let answer = made.map_or_else(Answer::Refused, |_| Answer::Done);
+    page::line(rt, SERVICE, action, Told(answer))
 }

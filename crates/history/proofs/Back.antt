@@ -1,5 +1,5 @@
 -- What a back keeps.
-use Rattle.std.proofs.Common.{◌≡◌, ℕ, true, ◌⊎◌, List, [], length, Some, None, Ok, Option, sym, refl, ap, ◌∙◌, subst, inl, inr, arith}
+use Rattle.std.proofs.Common.{◌≡◌, ℕ, true, ◌⊎◌, List, [], length, Some, None, Ok, Option, sym, refl, ap, ◌∙◌, subst, inl, inr}
 use Rattle.common.specs.declared.loss.Loss.{Loss}
 use Rattle.common.specs.declared.loss.Loss.TheVariants.{Beaten, Invalid, ClockSpent, Stolen}
 use Rattle.history.proofs.Alone.{alone_holds, alone_keeps_owners}
@@ -45,9 +45,9 @@ spared_called u us c w (Some f) x = λ e. go f.cause (x e)
 
 -- a state that a back is for is running or lost
 back_phase : (p : Phase) → is_for Backing p ≡ true → (p ≡ Running) ⊎ ((l : Loss) × (p ≡ Lost l))
-back_phase Idle e = absurd (let z : ◌≡◌ {A = ℕ} 0 1 = cc in omega arith)
+back_phase Idle e = absurd (cc)
 back_phase Running e = inl refl
-back_phase (Sealed t d) e = absurd (let z : ◌≡◌ {A = ℕ} 0 1 = cc in omega arith)
+back_phase (Sealed t d) e = absurd (cc)
 back_phase (Lost l) e = inr (l, refl)
 
 -- what a running or lost transaction has in common

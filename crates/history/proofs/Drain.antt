@@ -1,5 +1,5 @@
 -- A drain keeps the invariant.
-use Rattle.std.proofs.Common.{◌≡◌, ℕ, ◌+◌, ◌-◌, ◌<◌, ◌≤◌, Bool, true, false, cond, eqb, ◌⊎◌, List, [], ◌∷◌, length, get_or, drop, set, Some, None, Option, sym, refl, ap, ◌∙◌, subst, inl, inr, arith}
+use Rattle.std.proofs.Common.{◌≡◌, ℕ, ◌+◌, ◌-◌, ◌≤◌, Bool, true, false, cond, eqb, List, [], ◌∷◌, length, get_or, drop, set, Some, None, Option, sym, refl, ap, ◌∙◌, subst, inl, inr, arith}
 use Rattle.common.specs.declared.refusal.Refusal.TheVariants.{WrongState}
 use Rattle.history.proofs.DrainSteps.{DrainStep, drained_engine, drained_once, drained_outcome, step_keeps}
 use Rattle.history.proofs.Holders.{free_by_phase, held_by}
@@ -29,29 +29,19 @@ use Rattle.rules.specs.declared.kind.Kind.TheVariants.{Drain as Draining}
 use Rattle.rules.specs.declared.phase.Phase.{Phase}
 use Rattle.rules.specs.declared.phase.Phase.TheVariants.{Idle, Running, Sealed, Lost}
 use Rattle.std.proofs.lemmas.List.{length-set, get_or-set_same, get_or-set_other, drop_all, drop_more}
-use Rattle.std.proofs.lemmas.Option.{slice_get-get_or, slice_get_past}
-use Rattle.std.proofs.lemmas.Bool.{cases_lt, eqb-true, eqb-false, or_parts}
+use Rattle.std.proofs.lemmas.Option.{get_or_from_slice_get, slice_get_cases, slice_get_within}
+use Rattle.std.proofs.lemmas.Bool.{eqb-true, eqb-false, or_parts}
 use Rattle.std.specs.List.{slice_get}
 
 -- the next element of a list, after some were taken, is the first of the rest
 next_some : {X : Type 0} (xs : List X) (i : ℕ) (x : X) → slice_get xs i ≡ Some x → drop i xs ≡ x ∷ drop (i + 1) xs
-next_some {X} xs i x e = go (cases_lt i (length xs))
-  where
-    go : (i < length xs) ⊎ (length xs ≤ i) → drop i xs ≡ x ∷ drop (i + 1) xs
-    go (inl l) =
-        let p = slice_get-get_or xs i x l in
-        let q : get_or xs i x ≡ x = cc in
-        drop_more xs i x l ∙ ap (λ (y : X). y ∷ drop (i + 1) xs) q
-    go (inr l) = let p = slice_get_past xs i l in absurd (let z : ◌≡◌ {A = ℕ} 0 1 = cc in omega arith)
+next_some {X} xs i x e =
+    drop_more xs i x (slice_get_within xs i x e) ∙
+    ap (λ (y : X). y ∷ drop (i + 1) xs) (get_or_from_slice_get xs i x x e)
 
 -- with no next one the list is at its end
 next_none : {X : Type 0} (xs : List X) (i : ℕ) → slice_get xs i ≡ None → length xs ≤ i
-next_none [] i e = omega arith
-next_none (x ∷ xs) i e = go (cases_lt i (length (x ∷ xs)))
-  where
-    go : (i < length (x ∷ xs)) ⊎ (length (x ∷ xs) ≤ i) → length (x ∷ xs) ≤ i
-    go (inl l) = let p = slice_get-get_or (x ∷ xs) i x l in absurd (let z : ◌≡◌ {A = ℕ} 0 1 = cc in omega arith)
-    go (inr l) = l
+next_none xs i e = elim (slice_get_cases xs i).1 as (λ _. length xs ≤ i) [ inl p ↦ absurd (cc) | inr p ↦ p.0 ]
 
 -- the threads with one of them in another phase
 abbrev entered : State → ℕ → Phase → Map Thread

@@ -167,7 +167,7 @@ module _ (ws : List ℕ) (base : ℕ) (w : World) (h : History) (beats : Table) 
 
   -- a stripe that nobody held is not the caller's
   free_not_own : (s : ℕ) → (front w.engine s).hold ≡ None → owner_of w.engine s ≡ n → ⊥
-  free_not_own s none e = let p = held_by w.engine n ticket drained s sealed e in let z : ◌≡◌ {A = ℕ} 0 1 = cc in omega arith
+  free_not_own s none e = let p = held_by w.engine n ticket drained s sealed e in cc
 
   -- so the other threads are apart from the drain
   others_apart : (k : ℕ) → (k ≡ 0 → ⊥) → (k ≡ n → ⊥) →

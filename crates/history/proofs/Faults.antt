@@ -9,22 +9,19 @@ use Rattle.layout.specs.declared.set_up.SetUp.{SetUp}
 abbrev run : List Line → SetUp → History
 run ls u = history u first_words ls
 
-zero_is_not_one : ◌≡◌ {A = ℕ} 0 1 → ⊥
-zero_is_not_one e = omega arith
-
 -- the second word is to be 2, and is 1
 pub half_drained_is_unlawful : Unlawful half_drained
-half_drained_is_unlawful u l = let e = l.updaters_serialize.words in zero_is_not_one (cc)
+half_drained_is_unlawful u l = let e = l.updaters_serialize.words in cc
 
 -- after thread 1, the second updater loads 2, and was answered 1
 pub lost_update_is_unlawful : Unlawful lost_update
-lost_update_is_unlawful u l = let e = l.updaters_serialize.loads 1 (lit< tt) in zero_is_not_one (cc)
+lost_update_is_unlawful u l = let e = l.updaters_serialize.loads 1 (lit< tt) in cc
 
 -- at neither moment thread 2 loads what it was answered
 torn_at_each : (u : SetUp) (m : ℕ) → m ≤ 1 →
     LoadsAt first_words (run torn_read u).updaters m ((run torn_read u).present 2).work → ⊥
-torn_at_each u zero h e = zero_is_not_one (cc)
-torn_at_each u (suc zero) h e = zero_is_not_one (cc)
+torn_at_each u zero h e = cc
+torn_at_each u (suc zero) h e = cc
 torn_at_each u (suc (suc m)) h e = omega arith
 
 pub torn_read_is_unlawful : Unlawful torn_read
@@ -33,8 +30,8 @@ torn_read_is_unlawful u l =
 
 unchecked_at_each : (u : SetUp) (m : ℕ) → m ≤ 1 →
     LoadsAt first_words (run unchecked_loads u).updaters m ((run unchecked_loads u).present 2).work → ⊥
-unchecked_at_each u zero h e = zero_is_not_one (cc)
-unchecked_at_each u (suc zero) h e = zero_is_not_one (cc)
+unchecked_at_each u zero h e = cc
+unchecked_at_each u (suc zero) h e = cc
 unchecked_at_each u (suc (suc m)) h e = omega arith
 
 pub unchecked_loads_is_unlawful : Unlawful unchecked_loads
@@ -63,7 +60,7 @@ leader_stolen_from_is_unlawful u l = l.leaders_are_spared.latest 1 (rw (one_lead
 
 -- the first word is to be 2, and is 3
 pub given_up_word_is_unlawful : Unlawful given_up_word
-given_up_word_is_unlawful u l = let e = l.updaters_serialize.words in zero_is_not_one (cc)
+given_up_word_is_unlawful u l = let e = l.updaters_serialize.words in cc
 
 -- a work that loads what it was answered at the first moment has its point there, if it began then
 at_first : (us : List Work) (w : Work) → w.begun ≡ 0 → loaded_on first_words w.calls ≡ w.loaded →

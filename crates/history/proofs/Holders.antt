@@ -41,14 +41,14 @@ fronts_kept st st' e h s = λ i. record {
 unsealed_free : (es : List WriteEntry) (p : Phase) → is_sealed p ≡ false → hold_in es p ≡ None
 unsealed_free es Idle e = refl
 unsealed_free es Running e = refl
-unsealed_free es (Sealed t d) e = absurd (let z : ◌≡◌ {A = ℕ} 0 1 = cc in omega arith)
+unsealed_free es (Sealed t d) e = absurd (cc)
 unsealed_free es (Lost l) e = refl
 
 -- and one that holds nothing is not sealed
 pub free_unsealed : (es : List WriteEntry) (p : Phase) → hold_in es p ≡ None → is_sealed p ≡ false
 free_unsealed es Idle e = refl
 free_unsealed es Running e = refl
-free_unsealed es (Sealed t d) e = absurd (let z : ◌≡◌ {A = ℕ} 0 1 = cc in omega arith)
+free_unsealed es (Sealed t d) e = absurd (cc)
 free_unsealed es (Lost l) e = refl
 
 -- who is not another thread is nobody or the thread itself
@@ -113,4 +113,4 @@ free_not_draining {st} {n = n} x free e =
     let p : (thread_of st n).phase ≡ Sealed x.ticket x.drained = ap (λ (j : ℕ). (thread_of st j).phase) (sym e) ∙ x.sealed in
     let q : hold_in (thread_of st n).writes (Sealed x.ticket x.drained) ≡ None =
     ap (hold_in (thread_of st n).writes) (sym p) ∙ free in
-    let z : ◌≡◌ {A = ℕ} 0 1 = cc in omega arith
+    cc

@@ -2,7 +2,7 @@
 use Rattle.std.proofs.Common.{◌≡◌, ℕ, zero, suc, Bool, true, false, cond, ◌||◌, eqb, ltb, ◌⊎◌, List, [], ◌∷◌, ◌++◌, length, drop, is_some, Some, None, Option, sym, refl, ap, ◌∙◌, inl, inr}
 use Rattle.layout.specs.Lookups.{first_with, has_key, replaced}
 use Rattle.rules.specs.Load.{capacity, grown, is_full}
-use Rattle.std.proofs.lemmas.Bool.{both_ways, cond-true, eq-eqb, eqb-false, eqb-true, leb-false, lt-ltb, ne_eqb, or_cases, or_from, or_left, or_parts, or_right}
+use Rattle.std.proofs.lemmas.Bool.{both_ways, cond-true, eq-eqb, eqb-false, eqb-true, false_from_ne_true, leb-false, lt-ltb, ne_eqb, or_cases, or_from, or_left, or_parts, or_right}
 use Rattle.std.specs.List.{AllByRecursion}
 
 -- no two entries have the same key
@@ -29,11 +29,7 @@ not_both i j k d p q = eqb-false i j d (eqb-true i k p ∙ sym (eqb-true j k q))
 module _ {E : Type 0} (key : E → ℕ) where
   -- a list that cannot have a key does not have it
   pub never_has : (k : ℕ) (es : List E) → (has_key key k es ≡ true → ⊥) → has_key key k es ≡ false
-  never_has k es d = go (has_key key k es) d
-    where
-      go : (b : Bool) → (b ≡ true → ⊥) → b ≡ false
-      go true x = absurd (x refl)
-      go false x = refl
+  never_has k es d = false_from_ne_true (has_key key k es) d
 
   -- what holds of every entry holds of one that has the key
   pub entry_with_key : (k : ℕ) (P : E → Type 0) (es : List E) → AllByRecursion P es → has_key key k es ≡ true → (e : E) × (key e ≡ k) × P e

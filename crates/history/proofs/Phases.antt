@@ -1,5 +1,5 @@
 -- What a thread's state says of its transaction, and what an admitted call says of the state.
-use Rattle.std.proofs.Common.{◌≡◌, ℕ, ◌≤◌, Bool, true, false, cond, ◌&&◌, leb, ◌⊎◌, List, Ok, Err, Result, refl, ap, subst, inl, inr, arith}
+use Rattle.std.proofs.Common.{◌≡◌, ℕ, ◌≤◌, Bool, true, false, cond, ◌&&◌, leb, ◌⊎◌, List, Ok, Err, Result, refl, ap, subst, inl, inr}
 use Rattle.common.specs.declared.loss.Loss.{Loss}
 use Rattle.common.specs.declared.refusal.Refusal.{Refusal}
 use Rattle.common.specs.declared.refusal.Refusal.TheVariants.{NoSuchThread, WrongState, AlreadyLost}
@@ -20,7 +20,7 @@ pub record Admitted (st : State) (k : Kind) (n : ℕ) : Type 0 where
 
 -- a refusal is no consent
 never_ok : (r : Refusal) (x : Unit {0}) → ◌≡◌ {A = Result (Unit {0}) Refusal} (Err r) (Ok x) → ⊥
-never_ok r x e = let z : ◌≡◌ {A = ℕ} 0 1 = cc in omega arith
+never_ok r x e = cc
 
 -- nor is either refusal of a call that its state does not let in
 refused_never_ok : (b : Bool) (x : Unit {0}) → cond b (Err AlreadyLost) (Err WrongState) ≡ Ok x → ⊥
@@ -42,17 +42,17 @@ admitted_parts st k n x e = go (is_thread st.set_up n) (is_for k (thread_of st n
 
 -- a phase that is tested as running is so
 pub running_phase : (p : Phase) → is_running p ≡ true → p ≡ Running
-running_phase Idle e = absurd (let z : ◌≡◌ {A = ℕ} 0 1 = cc in omega arith)
+running_phase Idle e = absurd (cc)
 running_phase Running e = refl
-running_phase (Sealed t d) e = absurd (let z : ◌≡◌ {A = ℕ} 0 1 = cc in omega arith)
-running_phase (Lost l) e = absurd (let z : ◌≡◌ {A = ℕ} 0 1 = cc in omega arith)
+running_phase (Sealed t d) e = absurd (cc)
+running_phase (Lost l) e = absurd (cc)
 
 -- a phase that is tested as idle is so
 pub idle_phase : (p : Phase) → is_idle p ≡ true → p ≡ Idle
 idle_phase Idle e = refl
-idle_phase Running e = absurd (let z : ◌≡◌ {A = ℕ} 0 1 = cc in omega arith)
-idle_phase (Sealed t d) e = absurd (let z : ◌≡◌ {A = ℕ} 0 1 = cc in omega arith)
-idle_phase (Lost l) e = absurd (let z : ◌≡◌ {A = ℕ} 0 1 = cc in omega arith)
+idle_phase Running e = absurd (cc)
+idle_phase (Sealed t d) e = absurd (cc)
+idle_phase (Lost l) e = absurd (cc)
 
 -- a thread of the set-up is not 0
 pub thread_not_zero : (u : SetUp) (n : ℕ) → is_thread u n ≡ true → n ≡ 0 → ⊥
@@ -87,7 +87,7 @@ module _ {u : SetUp} {ws : List ℕ} {us : List Work} {base : ℕ} {fs : ℕ →
   running_inside e = go (cases_Bool (is_thread u n))
     where
       never_both : t.phase ≡ Running → t.phase ≡ Idle → ⊥
-      never_both p q = let z : ◌≡◌ {A = ℕ} 0 1 = cc in omega arith
+      never_both p q = cc
 
       go : (is_thread u n ≡ true) ⊎ (is_thread u n ≡ false) → is_thread u n ≡ true
       go (inl p) = p

@@ -45,12 +45,12 @@ valid_entries st n (e ∷ es) x = go (is_valid st n e) refl x (valid_entries st 
         (first_invalid st n es ≡ None → AllByRecursion (λ y. is_valid st n y ≡ true) es) →
         (is_valid st n e ≡ true) × AllByRecursion (λ y. is_valid st n y ≡ true) es
     go true p q later = (p, later q)
-    go false p q later = absurd (let z : ◌≡◌ {A = ℕ} 0 1 = cc in omega arith)
+    go false p q later = absurd (cc)
 
 -- the first invalid entry is one of them
 invalid_entry : (st : State) (n s : ℕ) (P : ReadMark → Type 0) (es : List ReadMark) → AllByRecursion P es → first_invalid st n es ≡ Some s →
     (e : ReadMark) × (e.stripe ≡ s) × (is_valid st n e ≡ false) × P e
-invalid_entry st n s P [] all x = absurd (let z : ◌≡◌ {A = ℕ} 0 1 = cc in omega arith)
+invalid_entry st n s P [] all x = absurd (cc)
 invalid_entry st n s P (e ∷ es) all x = go (is_valid st n e) refl x (invalid_entry st n s P es all.1)
   where
     go : (b : Bool) → is_valid st n e ≡ b → cond b (first_invalid st n es) (Some e.stripe) ≡ Some s →

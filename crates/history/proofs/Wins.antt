@@ -1,5 +1,5 @@
 -- Where a running thread meets the holder of a stripe: one of them is lost, and the rest is as it was.
-use Rattle.std.proofs.Common.{◌≡◌, ℕ, Bool, true, false, cond, not, ◌&&◌, eqb, ◌⊎◌, List, [], ◌∷◌, Some, None, Option, sym, refl, ap, ◌∙◌, subst, inl, inr, arith}
+use Rattle.std.proofs.Common.{◌≡◌, ℕ, Bool, true, false, cond, not, ◌&&◌, eqb, ◌⊎◌, List, [], ◌∷◌, Some, None, Option, sym, refl, ap, ◌∙◌, subst, inl, inr}
 use Rattle.common.specs.declared.loss.Loss.{Loss}
 use Rattle.common.specs.declared.loss.Loss.TheVariants.{Beaten, Stolen}
 use Rattle.contention.specs.Events.{Event, win_over}
@@ -66,7 +66,7 @@ rival_parts st n s k e = go (is_other n o && is_running (thread_of st o).phase) 
           other = λ z. both_ways (eqb o n) (not-true (eqb o n) y.1) (eq-eqb o n (same ∙ z));
           running = ap (λ (j : ℕ). (thread_of st j).phase) (sym same) ∙ running_phase (thread_of st o).phase x.1;
         }
-    go false p q = absurd (let z : ◌≡◌ {A = ℕ} 0 1 = cc in omega arith)
+    go false p q = absurd (cc)
 
 -- with no rival, another owner does not run
 rival_none : (st : State) (n s : ℕ) → (thread_of st 0).phase ≡ Idle → rival st n s ≡ None → (owner_of st s ≡ n → ⊥) →
@@ -86,7 +86,7 @@ rival_none st n s idle e d = go (is_other n o && is_running (thread_of st o).pha
 
     go : (b : Bool) → (is_other n o && is_running (thread_of st o).phase) ≡ b → cond b (Some o) None ≡ None →
         is_running (thread_of st o).phase ≡ false
-    go true p q = absurd (let z : ◌≡◌ {A = ℕ} 0 1 = cc in omega arith)
+    go true p q = absurd (cc)
     go false p q = parts (and_cases (is_other n o) (is_running (thread_of st o).phase) p)
 
 module _ (ws : List ℕ) (base : ℕ) (w : World) (h : History) (beats : Table) (n s end : ℕ) (ts : Map Thread)

@@ -1,5 +1,5 @@
 -- How many words a thread has to drain before and after a drain.
-use Rattle.std.proofs.Common.{◌≡◌, ℕ, suc, ◌+◌, ◌-◌, ◌<◌, ◌≤◌, Bool, true, false, cond, eqb, ◌⊎◌, List, [], length, set, Some, None, Ok, Err, Option, Result, refl, ap, ◌∙◌, inl, inr, arith}
+use Rattle.std.proofs.Common.{◌≡◌, ℕ, suc, ◌+◌, ◌-◌, ◌<◌, ◌≤◌, Bool, true, false, cond, eqb, List, [], length, set, Some, None, Ok, Err, Option, Result, refl, ap, ◌∙◌, inl, inr, arith}
 use Rattle.common.specs.declared.refusal.Refusal.{Refusal}
 use Rattle.common.specs.declared.refusal.Refusal.TheVariants.{NoSuchThread, WrongState}
 use Rattle.layout.specs.declared.entries.WriteEntry.{WriteEntry}
@@ -12,8 +12,8 @@ use Rattle.rules.specs.declared.answer.Answer.TheVariants.{Left, Refused}
 use Rattle.rules.specs.declared.kind.Kind.TheVariants.{Drain}
 use Rattle.rules.specs.declared.phase.Phase.{Phase}
 use Rattle.rules.specs.declared.phase.Phase.TheVariants.{Idle, Running, Sealed, Lost}
-use Rattle.std.proofs.lemmas.Option.{slice_get-get_or, slice_get_past}
-use Rattle.std.proofs.lemmas.Bool.{cases_lt, cond-true, eq-eqb, ne_eqb}
+use Rattle.std.proofs.lemmas.Option.{slice_get_cases, slice_get_within}
+use Rattle.std.proofs.lemmas.Bool.{cond-true, eq-eqb, ne_eqb}
 use Rattle.std.specs.List.{slice_get}
 use Rattle.tickets.specs.Drains.{drain_all, drains, left_in, left_of, words_left}
 
@@ -21,20 +21,9 @@ at_put_same : {A : Type 0} (m : Map A) (n : ℕ) (x : A) → at (put m n x) n �
 unfolding at put
 at_put_same m n x = cond-true (eqb n n) x (m.fun n) (eq-eqb n n refl)
 
--- a list has a next element exactly at a place before its end
-some_inside : {A : Type 0} (xs : List A) (i : ℕ) (x : A) → slice_get xs i ≡ Some x → i < length xs
-some_inside xs i x e = go (cases_lt i (length xs))
-  where
-    go : (i < length xs) ⊎ (length xs ≤ i) → i < length xs
-    go (inl h) = h
-    go (inr h) = let none = slice_get_past xs i h in let z : ◌≡◌ {A = ℕ} 0 1 = cc in absurd (omega arith)
-
-none_past : {A : Type 0} (d : A) (xs : List A) (i : ℕ) → slice_get xs i ≡ None → length xs ≤ i
-none_past d xs i e = go (cases_lt i (length xs))
-  where
-    go : (i < length xs) ⊎ (length xs ≤ i) → length xs ≤ i
-    go (inl h) = let some = slice_get-get_or xs i d h in let z : ◌≡◌ {A = ℕ} 0 1 = cc in absurd (omega arith)
-    go (inr h) = h
+-- a list that has no element at a place ends before it
+none_past : {A : Type 0} (xs : List A) (i : ℕ) → slice_get xs i ≡ None → length xs ≤ i
+none_past xs i e = elim (slice_get_cases xs i).1 as (λ _. length xs ≤ i) [ inl p ↦ absurd (cc) | inr p ↦ p.0 ]
 
 -- what a drain tells, and the words left before and after it, by its answer
 pub record Counted (before after : ℕ) (o : Outcome) : Type 0 where
@@ -47,7 +36,7 @@ refused_counted : (w : World) (n : ℕ) (r : Refusal) → Counted 0 (words_left 
 refused_counted w n r = record {
   told = refl;
   last = λ e. omega arith;
-  more = λ k e h. let z : ◌≡◌ {A = ℕ} 0 1 = cc in absurd (omega arith);
+  more = λ k e h. absurd (cc);
   refused = λ q e. refl;
 }
 
@@ -82,14 +71,14 @@ module _ (w : World) (n ticket drained : ℕ) (inside : is_thread w.engine.set_u
       Counted (length log - drained) (words_left (drain_next w n ticket drained (length log) o).after n)
       (drain_next w n ticket drained (length log) o)
   next_counted None e =
-      let end = none_past (record { address = 0; word = 0 }) log drained e in record {
+      let end = none_past log drained e in record {
         told = refl;
         last = λ p. omega (arith, end);
         more = λ k p h. let z : 0 ≡ k = cc in absurd (omega arith);
-        refused = λ r p. let z : ◌≡◌ {A = ℕ} 0 1 = cc in absurd (omega arith);
+        refused = λ r p. absurd (cc);
       }
   next_counted (Some x) e =
-      let room = some_inside log drained x e in record {
+      let room = slice_get_within log drained x e in record {
         told = refl;
         last = λ p. let z : length log - (drained + 1) ≡ 0 = cc in omega (arith, room);
         more = λ k p h.
@@ -97,7 +86,7 @@ module _ (w : World) (n ticket drained : ℕ) (inside : is_thread w.engine.set_u
               omega (arith, room),
               left_settled (set w.words x.address x.word) (ne_eqb (length log - (drained + 1)) 0 (λ q. omega arith)) ∙ z,
             );
-        refused = λ r p. let z : ◌≡◌ {A = ℕ} 0 1 = cc in absurd (omega arith);
+        refused = λ r p. absurd (cc);
       }
 
 -- in the state of a sealed thread a word is drained; no other state lets a drain in
@@ -112,7 +101,7 @@ sealed_counted w n inside (Lost l) = refused_counted w n WrongState
 -- who is let in is a thread of the set-up
 let_in_inside : (b : Bool) (r : Result (Unit {0}) Refusal) (x : Unit {0}) → cond b r (Err NoSuchThread) ≡ Ok x → b ≡ true
 let_in_inside true r x e = refl
-let_in_inside false r x e = let z : ◌≡◌ {A = ℕ} 0 1 = cc in absurd (omega arith)
+let_in_inside false r x e = absurd (cc)
 
 pub counted : (w : World) (n : ℕ) → Counted (words_left w n) (words_left (drain w n).after n) (drain w n)
 unfolding words_left

@@ -23,10 +23,9 @@ module _ {S P : Type 0} (words : S → List ℕ) (home : S → Home) (moved : P 
   -- the next drain, by what it answers
   module _ (start now after : Memory S P) (n : ℕ) (u : Underway start now n) where
     -- words are left, fewer than before
-    pub goes_on : (k : ℕ) → (k ≡ 0 → ⊥) → Did words home moved now after (Left k) (drain (world words now) n) →
+    pub goes_on : (k : ℕ) → 0 < k → Did words home moved now after (Left k) (drain (world words now) n) →
         Underway start after n × (words_left (world words after) n < words_left (world words now) n)
-    goes_on k some d =
-        let h : 0 < k = omega (arith, some) in
+    goes_on k h d =
         let both = (counted (world words now) n).more k (sym d.answered) h in
         let same : words_left (world words after) n ≡ words_left (drain (world words now) n).after n =
         ap (λ (w : World). words_left w n) d.left in (

@@ -16,13 +16,10 @@ fn change<S: WordStore, P: Policy>(
     word: u32,
 ) -> Result<(), Stop> {
     let idle = tasks.claim(thread)?;
-    let open = match tasks.begin(idle) {
-        Ok(open) => open,
-        Err(Kept { ticket, reason }) => {
-            tasks.hand_in(ticket);
-            return Err(Stop::Refused(reason));
-        }
-    };
+    let open = tasks.begin(idle).map_err(|kept| {
+        tasks.hand_in(kept.ticket);
+        kept.reason
+    })?;
     if let Err(stop) = tasks.store(&open, address, word) {
         give_up(tasks, open);
         return Err(stop);
@@ -45,10 +42,8 @@ fn change<S: WordStore, P: Policy>(
 
 // Drains all words, and hands the ticket in.
 fn finish<S: WordStore, P: Policy>(tasks: &mut Tasks<S, P>, sealed: SealedTicket) {
-    match tasks.drain_all(sealed) {
-        Ok(ticket) => tasks.hand_in(ticket),
-        Err(kept) => tasks.hand_in(kept.ticket),
-    }
+    let idle = tasks.drain_all(sealed).unwrap_or_else(|kept| kept.ticket);
+    tasks.hand_in(idle);
 }
 
 // Goes back from a transaction that was refused or lost, and hands the ticket in.

@@ -4,5 +4,6 @@ use memory::memory::Memory;
 #[derive(Drop)]
 pub struct Tasks<S, P> {
     pub(crate) memory: Memory<S, P>,
+    // An array in place, one flag for each thread, since nothing allocates.
     pub(crate) claims: [bool; 8],
 }

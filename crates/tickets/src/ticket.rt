@@ -1,87 +1,94 @@
 ghost use Rattle.std.specs.Prelude.{◌≡◌};
 
+use common::thread_id::ThreadId;
+
 // The ticket of a thread without a transaction: it begins one, or is handed in.
 // It may be let go; its thread then stays claimed.
-#[derive(Drop)]
-pub struct IdleTicket(u32);
+pub type IdleTicket = Ticket<Idle>;
 
 // The ticket of a thread with a transaction: it loads and stores, and then seals or goes back.
 // It may be let go; its transaction then stays as it is, until a numbered call ends it.
-#[derive(Drop)]
-pub struct OpenTicket(u32);
+pub type OpenTicket = Ticket<Open>;
 
 // The ticket of a thread whose words are to be drained: it drains until none is left, and may not be let go.
-pub struct SealedTicket(u32);
+pub type SealedTicket = Ticket<Sealed>;
 
-// Only a ticket of thread 0 may be let go, and no claim gives one, so that a program that forgets a sealed ticket does not
-// build.
-impl Drop for SealedTicket {
+// The ticket of a thread, with the state of its transaction. A claim makes the first one of a thread, and every other is
+// made of the one that a call is given.
+#[derive(Drop)]
+pub struct Ticket<State> {
+    thread: ThreadId,
+    state: State,
+}
+
+// No transaction.
+#[derive(Drop)]
+pub struct Idle;
+
+// A transaction that may load and store.
+#[derive(Drop)]
+pub struct Open;
+
+// The transaction that is the updater of this number, with words to drain.
+pub struct Sealed {
+    pub(crate) number: u32,
+}
+
+// Only the updater of number 0 may be let go, and there is none, since numbers start at 1: so a program that forgets a
+// sealed ticket does not build.
+impl Drop for Sealed {
     fn drop(self)
-        requires { self.0 ≡ 0 }
+        requires { self.number ≡ 0 }
     {
-        let SealedTicket(_) = self;
+        let Sealed { number: _ } = self;
+    }
+}
+
+impl Sealed {
+    // Takes the state of a transaction that has nothing to drain any more.
+    fn settle(self) {
+        let Sealed { number: _ } = self;
+    }
+}
+
+impl<State> Ticket<State> {
+    // The thread that it is for.
+    pub(crate) fn thread(&self) -> ThreadId
+        ensures { result ≡ self.now.thread }
+    {
+        self.thread
     }
 }
 
 impl IdleTicket {
-    // The first ticket of a thread, for a claim. Every other ticket is made of the one that a call is given.
-    pub(crate) fn new(thread: u32) -> IdleTicket
-        ensures { result.0 ≡ thread }
+    // The first ticket of a thread, for a claim.
+    pub(crate) fn new(thread: ThreadId) -> IdleTicket
+        ensures { result.thread ≡ thread }
     {
-        IdleTicket(thread)
-    }
-
-    // The number of the thread that it is for.
-    pub(crate) fn thread(&self) -> u32
-        ensures { result ≡ self.now.0 }
-    {
-        self.0
-    }
-
-    // The same thread's ticket, once a transaction has begun.
-    pub(crate) fn into_open(self) -> OpenTicket
-        ensures { result.0 ≡ self.0 }
-    {
-        OpenTicket(self.0)
+        Ticket {
+            thread,
+            state: Idle,
+        }
     }
 }
 
-impl OpenTicket {
-    // The number of the thread that it is for.
-    pub(crate) fn thread(&self) -> u32
-        ensures { result ≡ self.now.0 }
+impl<State: Drop> Ticket<State> {
+    // The same thread's ticket, once a call has brought its transaction into the next state.
+    pub(crate) fn into_state<Next>(self, state: Next) -> Ticket<Next>
+        ensures { result.thread ≡ self.thread }
     {
-        self.0
-    }
-
-    // The same thread's ticket, once its transaction has ended.
-    pub(crate) fn into_idle(self) -> IdleTicket
-        ensures { result.0 ≡ self.0 }
-    {
-        IdleTicket(self.0)
-    }
-
-    // The same thread's ticket, once words are to be drained.
-    pub(crate) fn into_sealed(self) -> SealedTicket
-        ensures { result.0 ≡ self.0 }
-    {
-        SealedTicket(self.0)
+        let Ticket { thread, state: _ } = self;
+        Ticket { thread, state }
     }
 }
 
 impl SealedTicket {
-    // The number of the thread that it is for.
-    pub(crate) fn thread(&self) -> u32
-        ensures { result ≡ self.now.0 }
-    {
-        self.0
-    }
-
     // The same thread's ticket, once nothing is to be drained any more. Only a drain may take a sealed ticket so.
     pub(crate) fn into_idle(self) -> IdleTicket
-        ensures { result.0 ≡ self.0 }
+        ensures { result.thread ≡ self.thread }
     {
-        let SealedTicket(thread) = self;
-        IdleTicket(thread)
+        let Ticket { thread, state } = self;
+        state.settle();
+        IdleTicket::new(thread)
     }
 }

@@ -7,7 +7,7 @@ ghost use Rattle.tickets.specs.Hands.{begin_hand};
 
 use crate::outcomes::Kept;
 use crate::tasks::Tasks;
-use crate::ticket::{IdleTicket, OpenTicket};
+use crate::ticket::{IdleTicket, Open, OpenTicket};
 use common::refusal::Refusal;
 use contention::policy::Policy;
 use stores::word_store::WordStore;
@@ -15,12 +15,13 @@ use stores::word_store::WordStore;
 impl<S: WordStore, P: Policy> Tasks<S, P> {
     // Begins a transaction of the ticket's thread, at the present moment. A refused begin leaves the ticket idle.
     pub fn begin(&mut self, ticket: IdleTicket) -> Result<OpenTicket, Kept<IdleTicket, Refusal>>
-        ensures did { Did S.words S.home P.moved self.old.memory self.new.memory (begin_answer (begin_given result)) (begin (world S.words self.old.memory) ticket.0) }
-        ensures hand { begin_left result ≡ begin_hand ticket.0 (begin_given result) }
+        ensures did { Did S.words S.home P.moved self.old.memory self.new.memory (begin_answer (begin_given result)) (begin (world S.words self.old.memory) ticket.thread.number) }
+        ensures hand { begin_left result ≡ begin_hand ticket.thread.number (begin_given result) }
         ensures claims { self.new.claims ≡ self.old.claims }
     {
-        match self.memory.begin(ticket.thread()) {
-            Ok(()) => Ok(ticket.into_open()),
+        // A `match`, since both ways take the ticket: in a chain of `map` and `map_err` only one could.
+        match self.memory.begin(ticket.thread().number()) {
+            Ok(()) => Ok(ticket.into_state(Open)),
             Err(reason) => Err(Kept { ticket, reason }),
         }
     }

@@ -19,6 +19,6 @@ impl<S, P> Tasks<S, P> {
             return Err(Refusal::AlreadyClaimed);
         }
         self.claims[id.index()] = true;
-        Ok(IdleTicket::new(thread))
+        Ok(IdleTicket::new(id))
     }
 }

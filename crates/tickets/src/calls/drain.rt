@@ -16,11 +16,12 @@ impl<S: WordStore, P: Policy> Tasks<S, P> {
     // Writes the next word of the ticket's transaction to the store. The ticket is idle once no word is left, and
     // where the drain is refused: its thread is then not sealed in this memory.
     pub fn drain(&mut self, ticket: SealedTicket) -> Result<Drained, Kept<IdleTicket, Refusal>>
-        ensures did { Did S.words S.home P.moved self.old.memory self.new.memory (drain_answer (drain_given result)) (drain (world S.words self.old.memory) ticket.0) }
-        ensures hand { drain_left result ≡ drain_hand ticket.0 (drain_given result) }
+        ensures did { Did S.words S.home P.moved self.old.memory self.new.memory (drain_answer (drain_given result)) (drain (world S.words self.old.memory) ticket.thread.number) }
+        ensures hand { drain_left result ≡ drain_hand ticket.thread.number (drain_given result) }
         ensures claims { self.new.claims ≡ self.old.claims }
     {
-        match self.memory.drain(ticket.thread()) {
+        // A `match`, since both ways take the ticket: in a chain of `map` and `map_err` only one could.
+        match self.memory.drain(ticket.thread().number()) {
             Ok(0) => Ok(Drained::All(ticket.into_idle())),
             Ok(left) => Ok(Drained::More { ticket, left }),
             Err(reason) => Err(Kept {

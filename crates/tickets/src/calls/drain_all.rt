@@ -19,16 +19,16 @@ impl<S: WordStore, P: Policy> Tasks<S, P> {
         &mut self,
         ticket: SealedTicket,
     ) -> Result<IdleTicket, Kept<IdleTicket, Refusal>>
-        ensures did { Did S.words S.home P.moved self.old.memory self.new.memory (drain_answer (finish_given result)) (drain_all (world S.words self.old.memory) ticket.0) }
-        ensures hand { finish_left result ≡ idle ticket.0 }
+        ensures did { Did S.words S.home P.moved self.old.memory self.new.memory (drain_answer (finish_given result)) (drain_all (world S.words self.old.memory) ticket.thread.number) }
+        ensures hand { finish_left result ≡ idle ticket.thread.number }
         ensures claims { self.new.claims ≡ self.old.claims }
     {
-        match drain_words(&mut self.memory, ticket.thread()) {
-            Ok(()) => Ok(ticket.into_idle()),
-            Err(reason) => Err(Kept {
-                ticket: ticket.into_idle(),
-                reason,
-            }),
+        let drained = drain_words(&mut self.memory, ticket.thread().number());
+        let ticket = ticket.into_idle();
+        // A `match`, since both ways take the ticket: in a chain of `map` and `map_err` only one could.
+        match drained {
+            Ok(()) => Ok(ticket),
+            Err(reason) => Err(Kept { ticket, reason }),
         }
     }
 }
@@ -40,14 +40,6 @@ fn drain_words<S: WordStore, P: Policy>(
 ) -> Result<(), Refusal>
     ensures { Did S.words S.home P.moved memory.old memory.new (drain_answer (none_left result)) (drain_all (world S.words memory.old) thread) }
 {
-    loop {
-        match memory.drain(thread) {
-            Ok(left) => {
-                if left == 0 {
-                    return Ok(());
-                }
-            }
-            Err(reason) => return Err(reason),
-        }
-    }
+    while memory.drain(thread)? > 0 {}
+    Ok(())
 }

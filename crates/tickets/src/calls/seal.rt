@@ -7,7 +7,7 @@ ghost use Rattle.tickets.specs.Hands.{seal_hand};
 
 use crate::outcomes::{Kept, Sealing};
 use crate::tasks::Tasks;
-use crate::ticket::OpenTicket;
+use crate::ticket::{self, Idle, OpenTicket};
 use contention::policy::Policy;
 use rules::ending::Sealed;
 use rules::stop::Stop;
@@ -17,17 +17,18 @@ impl<S: WordStore, P: Policy> Tasks<S, P> {
     // Seals the ticket's transaction: a reader is done, an updater is to be drained.
     // A seal that is refused or lost leaves the ticket open.
     pub fn seal(&mut self, ticket: OpenTicket) -> Result<Sealing, Kept<OpenTicket, Stop>>
-        ensures did { Did S.words S.home P.moved self.old.memory self.new.memory (seal_answer (seal_given result)) (seal (world S.words self.old.memory) ticket.0) }
-        ensures hand { seal_left result ≡ seal_hand ticket.0 (seal_given result) }
+        ensures did { Did S.words S.home P.moved self.old.memory self.new.memory (seal_answer (seal_given result)) (seal (world S.words self.old.memory) ticket.thread.number) }
+        ensures hand { seal_left result ≡ seal_hand ticket.thread.number (seal_given result) }
         ensures claims { self.new.claims ≡ self.old.claims }
     {
-        match self.memory.seal(ticket.thread()) {
+        // A `match`, since both ways take the ticket: in a chain of `map` and `map_err` only one could.
+        match self.memory.seal(ticket.thread().number()) {
             Ok(Sealed::Reader { snapshot }) => Ok(Sealing::Reader {
-                ticket: ticket.into_idle(),
+                ticket: ticket.into_state(Idle),
                 snapshot,
             }),
             Ok(Sealed::Updater { ticket: number }) => Ok(Sealing::Updater {
-                ticket: ticket.into_sealed(),
+                ticket: ticket.into_state(ticket::Sealed { number }),
                 number,
             }),
             Err(reason) => Err(Kept { ticket, reason }),

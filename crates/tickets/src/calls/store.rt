@@ -12,9 +12,9 @@ use stores::word_store::WordStore;
 impl<S: WordStore, P: Policy> Tasks<S, P> {
     // Has the ticket's transaction write a word at an address. The ticket stays open, also where the store is lost.
     pub fn store(&mut self, ticket: &OpenTicket, address: u32, word: u32) -> Result<(), Stop>
-        ensures did { Did S.words S.home P.moved self.old.memory self.new.memory (store_answer result) (store (P.table self.old.memory.policy) (world S.words self.old.memory) ticket.now.0 address word) }
+        ensures did { Did S.words S.home P.moved self.old.memory self.new.memory (store_answer result) (store (P.table self.old.memory.policy) (world S.words self.old.memory) ticket.now.thread.number address word) }
         ensures claims { self.new.claims ≡ self.old.claims }
     {
-        self.memory.store(ticket.thread(), address, word)
+        self.memory.store(ticket.thread().number(), address, word)
     }
 }

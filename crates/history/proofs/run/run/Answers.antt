@@ -1,4 +1,4 @@
-use Rattle.std.proofs.Common.{◌≡◌, map, get_or, None, refl, ap, ◌∙◌, arith}
+use Rattle.std.proofs.Common.{◌≡◌, map, None, refl, ap, ◌∙◌, arith}
 use Rattle.history.proofs.Prefixes.{beginnings_are_lawful}
 use Rattle.history.proofs.Turns.{underway_more, underway_all}
 use Rattle.history.proofs.run.run.Goals as goal
@@ -8,27 +8,18 @@ use Rattle.memory.specs.Memories.{world}
 use Rattle.rules.specs.Calls.{perform}
 use Rattle.rules.specs.declared.call.Call.TheVariants.{Begin}
 
-pub loop-turn-init : goal.loop-turn-init
-loop-turn-init g c = (record { shown = refl; rest = refl; world = refl; policy = refl }, refl)
-
 -- what stands in a place that no turn has
 abbrev blank : Turn
 blank = record { call = Begin 0; answer = None }
 
 pub loop-turn-preserved : goal.loop-turn-preserved
 unfolding perform
-loop-turn-preserved g c =
-    let turns = c.loop-turn.turns in
-    let i = c.loop-turn.turn-index in (
-      underway_more g.P.Policy.table g.P.Policy.moved c.args.turns.now
-          (run_from g.P.Policy.table g.P.Policy.moved (world g.S.WordStore.words c.new-memory.result) c.new-memory.result.policy (calls_of c.args.turns.now))
-          turns i (world g.S.WordStore.words c.loop-turn.memory) (world g.S.WordStore.words c.make.new.memory)
-          c.loop-turn.memory.policy c.make.new.memory.policy blank (get_or turns i blank)
-          c.make.new.self (omega arith) c.loop-turn.auto.turns refl
-          (λ k. record { call = c.make.ensures.call k; answer = c.make.ensures.answer k })
-          c.make.ensures.made.left c.make.ensures.made.told c.loop-turn.invariant.0,
-      c.make.ensures.made.lender ∙ c.loop-turn.invariant.1,
-    )
+loop-turn-preserved g c = (
+  underway_more _ _ _ _ _ _ _ _ _ _ blank _ _ (omega arith) c.loop-turn.auto.turns refl
+      (λ k. record { call = c.make.ensures.call k; answer = c.make.ensures.answer k })
+      c.make.ensures.made.left c.make.ensures.made.told c.loop-turn.invariant.0,
+  c.make.ensures.made.lender ∙ c.loop-turn.invariant.1,
+)
 
 pub returns : goal.returns
 returns g c =

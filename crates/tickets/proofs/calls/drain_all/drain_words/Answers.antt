@@ -1,26 +1,18 @@
+use Rattle.std.proofs.Common.{arith}
+use Rattle.std.proofs.lemmas.Result.{err_from_is_err_and}
 use Rattle.tickets.proofs.Underway.{goes_on, ends_empty, ends_refused}
 use Rattle.tickets.proofs.calls.drain_all.drain_words.Goals as goal
 
-pub loop-left-smaller : goal.loop-left-smaller
-loop-left-smaller g c =
-    (goes_on g.S.WordStore.words g.S.WordStore.home g.P.Policy.moved c.args.memory.now
-    c.loop-left.memory c.drain.new.self c.args.thread c.loop-left.invariant c.in-Ok.left
-    c.if-left-eq0.false c.in-Ok.ensures).1
+pub loop-smaller : goal.loop-smaller
+loop-smaller g c = (goes_on _ _ _ _ _ _ _ c.loop.invariant _ c.if-branch-gt0.true c.in_ok-drain.ensures).1
 
-pub loop-left-preserved : goal.loop-left-preserved
-loop-left-preserved g c =
-    (goes_on g.S.WordStore.words g.S.WordStore.home g.P.Policy.moved c.args.memory.now
-    c.loop-left.memory c.drain.new.self c.args.thread c.loop-left.invariant c.in-Ok.left
-    c.if-left-eq0.false c.in-Ok.ensures).0
+pub loop-preserved : goal.loop-preserved
+loop-preserved g c = (goes_on _ _ _ _ _ _ _ c.loop.invariant _ c.if-branch-gt0.true c.in_ok-drain.ensures).0
 
-pub returns-then-left-eq0 : goal.returns-then-left-eq0
-returns-then-left-eq0 g c =
-    ends_empty g.S.WordStore.words g.S.WordStore.home g.P.Policy.moved c.args.memory.now
-    c.loop-left.memory c.drain.new.self c.args.thread c.loop-left.invariant c.in-Ok.left
-    c.if-left-eq0.true c.in-Ok.ensures
+pub returns : goal.returns
+returns g c = ends_empty _ _ _ _ _ _ _ c.loop.invariant _ (omega arith) c.in_ok-drain.ensures
 
-pub returns-in-Err : goal.returns-in-Err
-returns-in-Err g c =
-    ends_refused g.S.WordStore.words g.S.WordStore.home g.P.Policy.moved c.args.memory.now
-    c.loop-left.memory c.drain.new.self c.args.thread c.loop-left.invariant c.in-Err.reason
-    c.in-Err.ensures
+pub returns-in_err-drain : goal.returns-in_err-drain
+returns-in_err-drain g c =
+    let p = err_from_is_err_and c.from_residual.result c.from_residual.ensures.1 in
+    rw (p.1, p.2) (ends_refused _ _ _ _ _ _ _ c.loop.invariant _ c.in_err-drain.ensures)
