@@ -12,10 +12,15 @@ fn fault(bytes: &[u8], ended: bool) -> Option<usize> {
 
 #[test]
 fn faults_stand_at_the_first_byte_that_leads_nowhere(rt: HostRuntime) {
-    let lines: [&[u8]; 5] = [b"", b"(begin 01)", b"(a (b (", b"(a)x", b"(a  1)"];
-    let columns = [1, 9, 7, 4, 4];
-    for (line, column) in lines.iter().zip(columns.iter()) {
-        assert_eq!(rt; fault(line, true), Some(*column));
+    let faults: [(&[u8], usize); 5] = [
+        (b"", 1),
+        (b"(begin 01)", 9),
+        (b"(a (b (", 7),
+        (b"(a)x", 4),
+        (b"(a  1)", 4),
+    ];
+    for (line, column) in faults {
+        assert_eq!(rt; fault(line, true), Some(column));
     }
 }
 
