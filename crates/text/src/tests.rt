@@ -4,27 +4,30 @@ use crate::numeral::numeral;
 use crate::place::check_text;
 use std::test::Fail;
 
-// The column of the line's text fault, or 0.
-fn fault(bytes: &[u8], ended: bool) -> usize {
-    match check_text(Line { bytes, ended }) {
-        Ok(()) => 0,
-        Err(fault) => fault.column,
-    }
+// The column of the line's text fault, if it has one.
+fn fault(bytes: &[u8], ended: bool) -> Option<usize> {
+    let refusal = check_text(Line { bytes, ended }).err()?;
+    Some(refusal.column)
 }
 
 #[test]
 fn faults_stand_at_the_first_byte_that_leads_nowhere(rt: HostRuntime) {
-    let lines: [&[u8]; 5] = [b"", b"(begin 01)", b"(a (b (", b"(a)x", b"(a  1)"];
-    let columns = [1, 9, 7, 4, 4];
-    for (line, column) in lines.iter().zip(columns.iter()) {
-        assert!(rt; fault(line, true) == *column);
+    let faults: [(&[u8], usize); 5] = [
+        (b"", 1),
+        (b"(begin 01)", 9),
+        (b"(a (b (", 7),
+        (b"(a)x", 4),
+        (b"(a  1)", 4),
+    ];
+    for (line, column) in faults {
+        assert_eq!(rt; fault(line, true), Some(column));
     }
 }
 
 #[test]
 fn faults_stand_one_past_an_unfinished_line(rt: HostRuntime) {
-    assert!(rt; fault(b"(begin 1)", false) == 10);
-    assert!(rt; fault(b"(begin 1)", true) == 0);
+    assert_eq!(rt; fault(b"(begin 1)", false), Some(10));
+    assert_eq!(rt; fault(b"(begin 1)", true), None);
 }
 
 #[test]
