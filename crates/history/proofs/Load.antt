@@ -39,7 +39,7 @@ use Rattle.std.specs.List.{AllByRecursion}
 
 -- a thread with another snapshot end and read log
 abbrev read_on : Thread → ℕ → List ReadMark → Thread
-read_on t end rs = record { phase = t.phase; snapshot = end; reads = rs; writes = t.writes }
+read_on t end rs = record t { snapshot = end; reads = rs }
 
 -- what is left to show of a transaction that was answered a word: it loads it at its snapshot end, and wherever the
 -- words that its read log looks at are the same

@@ -18,7 +18,7 @@ use Rattle.std.specs.List.{AllByRecursion}
 
 -- the engine with its clock, and other marks, stripes and threads
 abbrev pub quiet_state : State → Bool → Map Stripe → Map Thread → State
-quiet_state st m ss ts = record { set_up = st.set_up; clock = st.clock; mark = m; stripes = ss; threads = ts }
+quiet_state st m ss ts = record st { mark = m; stripes = ss; threads = ts }
 
 -- the outcome of a call that leaves the words
 abbrev pub quiet_outcome : World → Answer → List Event → State → Outcome

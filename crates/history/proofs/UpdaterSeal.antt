@@ -33,7 +33,7 @@ use Rattle.std.proofs.lemmas.Bool.{both_ways, cases_eq, cases_lt}
 -- the engine with the clock one higher, and these threads
 abbrev stamped : State → Map Thread → State
 stamped st ts =
-    record { set_up = st.set_up; clock = st.clock + 1; mark = st.mark; stripes = st.stripes; threads = ts }
+    record st { clock = st.clock + 1; threads = ts }
 
 -- the outcome of the seal
 abbrev updater_sealed : World → ℕ → Map Thread → Outcome

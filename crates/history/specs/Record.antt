@@ -110,21 +110,18 @@ deed c (Lost l) = none
 
 -- the work with one more call
 abbrev pub called : Call → Work → Work
-called c w =
-    record { thread = w.thread; begun = w.begun; loaded_at = w.loaded_at; calls = c ∷ w.calls; loaded = w.loaded; number = w.number }
+called c w = record w { calls = c ∷ w.calls }
 
 -- the work with one more call, a load that was answered this word at this moment
 abbrev pub called_load : Call → ℕ → ℕ → Work → Work
-called_load c m v w =
-    record { thread = w.thread; begun = w.begun; loaded_at = m; calls = c ∷ w.calls; loaded = v ∷ w.loaded; number = w.number }
+called_load c m v w = record w { loaded_at = m; calls = c ∷ w.calls; loaded = v ∷ w.loaded }
 
 -- the work with one more call, a seal that made it the updater of this number
 abbrev pub called_seal : Call → ℕ → Work → Work
-called_seal c k w =
-    record { thread = w.thread; begun = w.begun; loaded_at = w.loaded_at; calls = c ∷ w.calls; loaded = w.loaded; number = Some k }
+called_seal c k w = record w { calls = c ∷ w.calls; number = Some k }
 
 abbrev pub with_work : Transaction → Work → Transaction
-with_work t w = record { work = w; led = t.led; fall = t.fall }
+with_work t w = record t { work = w }
 
 -- the caller's transaction after a deed at this moment
 abbrev pub acted : Call → ℕ → Transaction → Deed → Transaction
@@ -162,7 +159,7 @@ leads beats n (suc m) = (suc m == n || (beats n (suc m) && not (beats (suc m) n)
 
 -- the transaction when a call starts at which its thread leads or not
 abbrev pub watched : Bool → Transaction → Transaction
-watched b t = record { work = t.work; led = t.led && b; fall = t.fall }
+watched b t = record t { led = t.led && b }
 
 -- the loss that an answer tells its caller
 abbrev pub ended_loss : Ending → Option Loss
@@ -190,7 +187,7 @@ shown_loss l n = cond (n == caller l.call) (or_else (told_loss l.answer) (l.loss
 abbrev pub first_fall : Loss → ℕ → Transaction → Option Fall → Transaction
 first_fall l m t (Some f) = t
 first_fall l m t None =
-    record { work = t.work; led = t.led; fall = Some (record { cause = l; moment = m; led = t.led }) }
+    record t { fall = Some (record { cause = l; moment = m; led = t.led }) }
 
 abbrev pub fallen : ℕ → Transaction → Option Loss → Transaction
 fallen m t None = t

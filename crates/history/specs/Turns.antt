@@ -19,7 +19,7 @@ pub record Run (P : Type 0) : Type 0 where
 
 -- a run that begins with this line
 abbrev pub begun_by : {P : Type 0} → Line → Run P → Run P
-begun_by l r = record { lines = l ∷ r.lines; world = r.world; policy = r.policy }
+begun_by l r = record r { lines = l ∷ r.lines }
 
 module _ {P : Type 0} (table : P → Table) (moved : P → Event → P) where
   -- these calls, from this world and this policy
