@@ -1,5 +1,5 @@
 -- The lines of a script that is parted at its first line feed.
-use Rattle.std.proofs.Common.{◌≡◌, ℕ, ◌+◌, ◌<◌, Bool, true, false, cond, not, eqb, List, [], ◌∷◌, length, take, drop, None, sym, refl, ap, ◌∙◌, one-add, length-append, take-append-drop}
+use Rattle.std.proofs.Common.{◌≡◌, ℕ, ◌+◌, ◌<◌, Bool, true, false, cond, not, eqb, List, [], ◌∷◌, length, take, drop, None, sym, refl, ap, ◌∙◌, one-add, arith, length-append, take-append-drop}
 use Rattle.std.proofs.lemmas.List.{nil_from_length}
 use Rattle.std.specs.List.{prefix_len}
 use Rattle.text.proofs.Firsts.{at_first, rest_of}
@@ -53,3 +53,14 @@ at_end script front back p none = p.by ∙ ap (lines_by front) (nil_from_length 
 -- a line feed and more lines are behind it
 pub at_feed : (script front back : List ℕ) → Parted script front back → 0 < length back → lines script ≡ (record { bytes = front; ended = true } ∷ lines (rest_of back))
 at_feed script front back p some = p.by ∙ at_first (lines_by front) back _ some refl
+
+-- nothing is left of it
+pub no_line : (script front back : List ℕ) → Parted script front back → length back ≡ 0 → length front ≡ 0 → lines script ≡ []
+no_line script front back p none no_front =
+    p.by ∙ ap (lines_by front) (nil_from_length back none) ∙ ap (λ (bs : List ℕ). lines_by bs []) (nil_from_length front no_front)
+
+-- a line that nothing ended is left
+pub last_line : (script front back : List ℕ) → Parted script front back → length back ≡ 0 → 0 < length front → lines script ≡ (record { bytes = front; ended = false } ∷ lines [])
+unfolding lines
+last_line script [] back p none some = absurd (omega arith)
+last_line script (b ∷ bs) back p none some = p.by ∙ ap (lines_by (b ∷ bs)) (nil_from_length back none)

@@ -1,6 +1,7 @@
 -- Lines, tokens and places of the code as the definitions see them: a borrowed part by its bytes.
-use Rattle.std.specs.Prelude.{ℕ, ◌+◌, ◌<◌, true, false, List, [], ◌∷◌, length, Some, None, Option}
+use Rattle.std.specs.Prelude.{ℕ, ◌+◌, ◌<◌, true, false, List, [], ◌∷◌, length, Some, None, Option, OnSome}
 use Rattle.std.specs.Borrow.{Bor}
+use Rattle.std.specs.Iterator.{YieldsFirstBy}
 use Rattle.text.specs.Lines.{Line, lines}
 use Rattle.text.specs.Tokens.{Token, opening, closing, name, number, end, Spot, Taken}
 use Rattle.text.specs.declared.cursor.Cursor.{Cursor}
@@ -12,6 +13,10 @@ use Rattle.text.specs.declared.token.Token.TheVariants.{Open, Close, Name, Numbe
 -- a line by its bytes
 abbrev pub line_view : LineCell → Line
 line_view l = record { bytes = l.bytes.now; ended = l.ended }
+
+-- the first of the lines of these bytes is taken, and the others are those of fewer bytes; or there is none
+abbrev pub TakesLine : List ℕ → Option LineCell → List ℕ → Type 0
+TakesLine bs l rest = YieldsFirstBy line_view lines bs l rest × OnSome l (length rest < length bs)
 
 -- a token by its bytes
 abbrev pub token_view : TokenCell → Token

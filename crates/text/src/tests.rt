@@ -1,5 +1,5 @@
 use crate::cursor::Cursor;
-use crate::line::{Line, first_line, line_count};
+use crate::line::{Line, Lines, first_line, line_count};
 use crate::numeral::numeral;
 use crate::place::check_text;
 use std::test::Fail;
@@ -38,6 +38,15 @@ fn a_script_has_its_lines(rt: HostRuntime) -> Result<(), Fail> {
     assert!(rt; line_count(b"(a)\n\n(b") == 3);
     let cut = first_line(b"(a)\n\n(b").ok_or("no line")?;
     assert!(rt; cut.first.bytes.len() == 3 && cut.first.ended && cut.rest.len() == 3);
+    Ok(())
+}
+
+#[test]
+fn lines_come_one_by_one(rt: HostRuntime) -> Result<(), Fail> {
+    let mut lines = Lines::new(b"(a)\n\n(b");
+    let first = lines.next().ok_or("no line")?;
+    assert!(rt; first.bytes.len() == 3 && first.ended && lines.rest().len() == 3);
+    assert!(rt; lines.filter(|line| line.ended).count() == 1);
     Ok(())
 }
 
