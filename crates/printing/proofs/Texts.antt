@@ -1,21 +1,11 @@
--- The texts of numbers: the last digit, and one number more.
-use Rattle.std.proofs.Common.{◌≡◌, ℕ, ◌+◌, ◌/◌, ◌%◌, ◌^◌, ◌<◌, List, [], ◌∷◌, ◌++◌, length, get_or, take, decimal, sym, ap, ◌∙◌, append_assoc, arith}
-use Rattle.std.proofs.lemmas.Fmt.{decimal_digit, decimal_step}
+-- The texts of numbers: one number more.
+use Rattle.std.proofs.Common.{◌≡◌, ℕ, ◌+◌, ◌*◌, ◌<◌, ◌≤◌, List, [], ◌∷◌, ◌++◌, length, get_or, take, sym, ap, ◌∙◌, arith}
 use Rattle.std.proofs.lemmas.List.{take_more, flat_map_more}
-use Rattle.printing.specs.Forms.{item_text, items_text, LastDigit}
+use Rattle.printing.specs.Forms.{items_of}
 
-pub last_digit : (n : ℕ) → n < 2 ^ 64 → LastDigit n (n % 10)
-last_digit n fits =
-    record {
-      small = omega arith;
-      alone = λ small.
-          let itself : n % 10 ≡ n = omega arith in
-          decimal_digit n small ∙ ap (λ d. (48 + d) ∷ []) (sym itself);
-      behind = λ large more.
-          ap (λ ds. ds ++ more) (decimal_step n large fits)
-          ∙ append_assoc (decimal (n / 10)) ((48 + n % 10) ∷ []) more;
-    }
+pub items_more : {N : Type 0} (text : N → List ℕ) (numbers : List N) (i : ℕ) (d : N) → i < length numbers → items_of text (take (i + 1) numbers) ≡ items_of text (take i numbers) ++ (32 ∷ text (get_or numbers i d))
+items_more text numbers i d h = ap (items_of text) (take_more numbers i d h) ∙ sym (flat_map_more (λ n. 32 ∷ text n) [] (take i numbers) (get_or numbers i d))
 
--- one number more
-pub items_more : (numbers : List ℕ) (i : ℕ) → i < length numbers → items_text (take (i + 1) numbers) ≡ items_text (take i numbers) ++ item_text (get_or numbers i 0)
-items_more numbers i h = ap items_text (take_more numbers i 0 h) ∙ sym (flat_map_more item_text [] (take i numbers) (get_or numbers i 0))
+-- items of at most so many bytes each, and one more
+pub longer : (a b i m : ℕ) → a ≤ i * (m + 1) → b ≤ m → a + (1 + b) ≤ (i + 1) * (m + 1)
+longer a b i m h k = grind (arith)

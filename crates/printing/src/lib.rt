@@ -1,7 +1,6 @@
 // Printing of the console's lines into a lent output. What does not fit is cut off.
 #![tactic(auto)]
 
-pub mod forms;
-mod pieces;
+pub mod page;
 #[cfg(test)]
 mod tests;

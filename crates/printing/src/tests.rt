@@ -1,10 +1,11 @@
-use crate::forms::print_form;
+use crate::page::Page;
 
 #[test]
 fn numbers_of_every_length(rt: HostRuntime) {
     let mut output = [0; 64];
-    let numbers = [0, 9, 10, 4294967295, 18446744073709551615];
-    let end = print_form(&mut output, 0, b"read", &numbers);
+    let mut page = Page::new(&mut output, 0);
+    page.print_form(b"read", &[0u64, 9, 10, 4294967295, 18446744073709551615]);
+    let end = page.end();
     assert!(rt; end <= 64);
     assert_eq!(rt;
         &output[0..end],
@@ -15,18 +16,27 @@ fn numbers_of_every_length(rt: HostRuntime) {
 #[test]
 fn one_form_behind_another(rt: HostRuntime) {
     let mut output = *b"................";
-    let end = print_form(&mut output, 1, b"ok", &[]);
-    assert_eq!(rt; end, 6);
-    assert_eq!(rt; print_form(&mut output, end, b"at", &[7]), 13);
+    let mut page = Page::new(&mut output, 1);
+    page.print_form::<u64>(b"ok", &[]);
+    assert_eq!(rt; page.end(), 6);
+    page.print_form(b"at", &[7u64]);
+    assert_eq!(rt; page.end(), 13);
     assert_eq!(rt; output, *b".(ok)\n(at 7)\n...");
+}
+
+// The end of a form that is printed from a place on.
+fn end_from(output: &mut [u8], at: usize) -> usize {
+    let mut page = Page::new(output, at);
+    page.print_form(b"at", &[100u64]);
+    page.end()
 }
 
 #[test]
 fn outputs_that_are_too_short(rt: HostRuntime) {
     let mut output = *b"........";
-    assert_eq!(rt; print_form(&mut output, 3, b"at", &[100]), 8);
+    assert_eq!(rt; end_from(&mut output, 3), 8);
     assert_eq!(rt; output, *b"...(at 1");
-    assert_eq!(rt; print_form(&mut output, 8, b"at", &[100]), 8);
-    assert_eq!(rt; print_form(&mut output, 9, b"at", &[100]), 9);
+    assert_eq!(rt; end_from(&mut output, 8), 8);
+    assert_eq!(rt; end_from(&mut output, 9), 9);
     assert_eq!(rt; output, *b"...(at 1");
 }

@@ -16,7 +16,6 @@ use Rattle.session.specs.Openings.{opening, form_opening, set_up_opening, sized_
 use Rattle.session.specs.SetUps.{set_up_of}
 use Rattle.session.specs.Turns.{form_turn, line_turn, peek_reply}
 use Rattle.session.specs.declared.opening.Opening.{Opening}
-use Rattle.session.specs.declared.opening.Opening.TheVariants.{Answered, Made}
 use Rattle.session.specs.declared.reply.Reply.{Reply}
 use Rattle.text.specs.Lines.{Line, lengthened, lines}
 
@@ -35,18 +34,18 @@ pub line_turn_column : (beats : Table) (w : World) (l : Line) → reply_column (
 line_turn_column beats w l = form_turn_column beats w l (form_of l true) refl
 
 -- the column that an opening names
-opening_column : Opening → ℕ
-opening_column (Answered r) = reply_column r
-opening_column (Made u e) = 0
+opening_column : Result Opening Reply → ℕ
+opening_column (Err r) = reply_column r
+opening_column (Ok p) = 0
 
-sized_column : (e : EngineForm) (u : SetUp) (ok : Bool) → opening_column (sized_opening e u ok) ≡ 0
+sized_column : (e : EngineForm) (u : SetUp) (ok : Bool) (q : leb e.words 256 ≡ ok) → opening_column (sized_opening e u ok q) ≡ 0
 unfolding opening_column
-sized_column e u true = refl
-sized_column e u false = refl
+sized_column e u true q = refl
+sized_column e u false q = refl
 
 set_up_column : (e : EngineForm) (r : Result SetUp Refusal) → opening_column (set_up_opening e r) ≡ 0
 unfolding opening_column
-set_up_column e (Ok u) = sized_column e u (leb e.words 256)
+set_up_column e (Ok u) = sized_column e u (leb e.words 256) refl
 set_up_column e (Err d) = refl
 
 form_opening_column : (l : Line) (r : Result Form FormFault) → form_of l false ≡ r → opening_column (form_opening r) ≤ length l.bytes + 1
@@ -58,7 +57,7 @@ form_opening_column l (Ok (Call c)) e = omega arith
 form_opening_column l (Ok (Peek s)) e = omega arith
 
 -- so does the reply to a line before there is an engine
-pub opening_within : (l : Line) (r : Reply) → Answered r ≡ opening l → reply_column r ≤ length l.bytes + 1
+pub opening_within : (l : Line) (r : Reply) → Err r ≡ opening l → reply_column r ≤ length l.bytes + 1
 unfolding opening_column
 opening_within l r o = omega (arith, ap opening_column o, form_opening_column l (form_of l false) refl)
 

@@ -1,5 +1,6 @@
 mod Columns
 mod Lengths
+mod Openings
 mod SetUps
 mod Stores
 mod Texts

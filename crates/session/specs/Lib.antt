@@ -1,6 +1,8 @@
+pub mod Answering
 pub mod ConsoleRefusals
 pub mod Lengths
 pub mod Openings
+pub mod Policies
 pub mod Replies
 pub mod Runs
 pub mod Scripts

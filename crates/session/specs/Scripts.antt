@@ -1,5 +1,5 @@
 -- What a script prints.
-use Rattle.std.specs.Prelude.{ℕ, List, [], ◌∷◌, ◌++◌, replicate}
+use Rattle.std.specs.Prelude.{List, [], ◌∷◌, ◌++◌, replicate, Ok, Err, ℕ}
 use Rattle.contention.specs.Events.{Event, after_events}
 use Rattle.contention.specs.Policies.{no_points, karma_points, nobody_beats, each_beats_other, unmoved, karma_table, karma_moved, new_karma, kill_prio_table, kill_prio_moved, new_kill_prio}
 use Rattle.contention.specs.declared.aggressive.Aggressive.{Aggressive}
@@ -13,7 +13,6 @@ use Rattle.rules.specs.States.{World}
 use Rattle.session.specs.Openings.{opening}
 use Rattle.session.specs.Replies.{reply_text}
 use Rattle.session.specs.Turns.{line_turn}
-use Rattle.session.specs.declared.opening.Opening.TheVariants.{Answered, Made}
 use Rattle.session.specs.declared.reply.Reply.TheVariants.{Points as PointsReply}
 use Rattle.text.specs.Lines.{Line}
 
@@ -39,4 +38,4 @@ policy_text KillPrioName w ls = engine_text no_points kill_prio_table kill_prio_
 unfoldable pub script_text : List Line → List ℕ
 script_text [] = []
 script_text (l ∷ ls) =
-    elim (opening l) [ Answered r ↦ reply_text r ++ script_text ls | Made u e ↦ policy_text e.policy (new_world u (replicate e.words 0)) ls ]
+    elim (opening l) [ Err r ↦ reply_text r ++ script_text ls | Ok o ↦ policy_text o.engine.policy (new_world o.set_up (replicate o.engine.words 0)) ls ]

@@ -9,7 +9,7 @@ use Rattle.std.proofs.lemmas.Bool.{and_parts}
 
 -- the clock limit is checked last
 abbrev pub limited : (t s h l : ℕ) → thread_count t ≡ true → stripe_count s ≡ true → shift_width h ≡ true → (ok : Bool) → clock_limit l ≡ ok → Result SetUp Refusal
-limited t s h l threads stripes shift false no-limit = Err ClockLimit
+limited t s h l threads stripes shift false no_limit = Err ClockLimit
 limited t s h l threads stripes shift true limit = Ok (record {
   threads = t;
   stripes = s;
@@ -30,7 +30,7 @@ shifted t s h l threads stripes true shift = limited t s h l threads stripes shi
 
 -- the stripes before that
 abbrev pub striped : (t s h l : ℕ) → thread_count t ≡ true → (ok : Bool) → stripe_count s ≡ ok → Result SetUp Refusal
-striped t s h l threads false no-stripes = Err StripeCount
+striped t s h l threads false no_stripes = Err StripeCount
 striped t s h l threads true stripes = shifted t s h l threads stripes (shift_width h) refl
 
 -- and the threads first

@@ -2,6 +2,7 @@ ghost use Rattle.std.specs.Prelude.{◌≡◌};
 ghost use Rattle.session.specs.ConsoleRefusals.{console_refusal_number};
 
 // Why the console refused an engine form or a script. What is refused changes nothing.
+// These stand beside the memory's refusals: no call of the library can answer them.
 #[derive(Clone, Copy, PartialEq, Eq, Debug)]
 pub enum ConsoleRefusal {
     // An engine of the console with more than 256 words.

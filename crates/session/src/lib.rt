@@ -2,6 +2,8 @@
 #![tactic(auto)]
 
 pub mod console_refusal;
+pub mod on_engine;
+pub mod open_line;
 pub mod opening;
 pub mod reply;
 pub mod run;

@@ -4,6 +4,7 @@ ghost use Rattle.text.specs.Lines.{lines};
 
 use crate::console_refusal::ConsoleRefusal;
 use crate::script::answer_script;
+use printing::page::Page;
 use text::line::line_count;
 
 // The most bytes that a script has.
@@ -35,5 +36,7 @@ fn answer_whole(script: &[u8], output: &mut [u8]) -> usize
     ensures after { output.new ≡ script_printed script.now ++ drop (length (script_printed script.now)) output.old }
     ensures few { result ≤ 1048576 }
 {
-    answer_script(script, output)
+    let mut page = Page::new(output, 0);
+    answer_script(script, &mut page);
+    page.end()
 }

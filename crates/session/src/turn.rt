@@ -19,9 +19,9 @@ pub fn answer_line<S: WordStore, P: Policy>(memory: &mut Memory<S, P>, line: Lin
         Ok(Form::Call(call)) => Reply::Answered(memory.perform(call)),
         Ok(Form::Peek { stripe }) => match memory.peek(stripe) {
             Ok(bits) => Reply::Lock(bits),
-            Err(refusal) => Reply::refused(refusal),
+            Err(refusal) => Reply::from(refusal),
         },
         Ok(Form::Engine(_)) => Reply::Fault(FormFault::Order),
-        Err(fault) => Reply::Fault(fault),
+        Err(fault) => Reply::from(fault),
     }
 }

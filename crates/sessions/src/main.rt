@@ -1,10 +1,10 @@
 // Runs scripts through the console's script run, and prints each line with its answer.
 #![tactic(auto)]
 
-use session::run::run_script;
+use session::run::{BYTES_FOR_A_LINE, run_script};
 use std::fs;
 use std::io::Write;
-use text::line::{first_line, line_count};
+use text::line::{Lines, line_count};
 
 // The scripts, in the order in which they are shown.
 const SCRIPTS: [&str; 13] = [
@@ -37,10 +37,10 @@ fn run(rt: &HostRuntime) -> anyhow::Result<()> {
     Ok(())
 }
 
-// Runs a script, and shows what it prints.
+// Runs a script, and shows what it prints. The room is made here, since the crates below the programs allocate nothing.
 fn show(rt: &HostRuntime, name: &str) -> anyhow::Result<()> {
     let script = fs::read(rt, name)?;
-    let room = line_count(&script).saturating_mul(32);
+    let room = line_count(&script).saturating_mul(BYTES_FOR_A_LINE);
     let mut output = vec![in rt.alloc(); 0u8; room]?;
     match run_script(&script, &mut output) {
         Ok(end) => {
@@ -57,22 +57,12 @@ fn show(rt: &HostRuntime, name: &str) -> anyhow::Result<()> {
 
 // Prints each line of a script with the line that answers it.
 fn show_lines(rt: &HostRuntime, script: &[u8], output: &[u8]) -> anyhow::Result<()> {
-    let mut said = script;
-    let mut answers = output;
-    for _ in 0..line_count(script) {
-        let Some(line) = first_line(said) else {
-            break;
-        };
-        let Some(answer) = first_line(answers) else {
-            break;
-        };
+    for (said, answer) in Lines::new(script).zip(Lines::new(output)) {
         let mut out = rt.stdout();
-        out.write_all(line.first.bytes)?;
+        out.write_all(said.bytes)?;
         out.write_all(b" > ")?;
-        out.write_all(answer.first.bytes)?;
+        out.write_all(answer.bytes)?;
         out.write_all(b"\n")?;
-        said = line.rest;
-        answers = answer.rest;
     }
     Ok(())
 }

@@ -1,8 +1,6 @@
 ghost use Rattle.worked_cases.specs.Cases.{WorkedCases};
 
-// The worked cases hold; answers how many they are.
-pub fn worked_cases_hold() -> u8
+// The worked cases hold.
+pub fn worked_cases_hold()
     ensures { WorkedCases }
-{
-    9
-}
+{}

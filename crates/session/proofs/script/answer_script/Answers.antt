@@ -1,8 +1,8 @@
-use Rattle.std.proofs.Common.{◌*◌, ◌≤◌, length, replicate, ap, arith}
+use Rattle.std.proofs.Common.{ℕ, ◌*◌, ◌≤◌, List, length, replicate, sym, ap, arith, subst}
 use Rattle.rules.specs.NewEngine.{new_world}
 use Rattle.session.proofs.Columns.{opening_within, line_within}
-use Rattle.session.proofs.Texts.{script_text_more, script_text_made, script_text_none, made_words}
-use Rattle.session.proofs.Underway.{underway_none, underway_more, underway_all, underway_last}
+use Rattle.session.proofs.Texts.{script_text_more, script_text_made, script_text_none, answered_by_policy}
+use Rattle.session.proofs.Underway.{Underway, underway_none, underway_more, underway_all, underway_last}
 use Rattle.session.proofs.script.answer_script.Goals as goal
 use Rattle.session.specs.Lengths.{reply_column}
 use Rattle.session.specs.Replies.{reply_text}
@@ -10,50 +10,50 @@ use Rattle.session.specs.Scripts.{policy_text, script_text}
 use Rattle.text.specs.Lines.{lines}
 use Rattle.text.specs.Views.{line_view}
 
-pub loop-cut-init : goal.loop-cut-init
-loop-cut-init c = (
-  underway_none (length c.args.script.now ≤ 32768) 0 (script_text (lines c.args.script.now)) c.args.output.now (31 * length (lines c.args.script.now)),
-  omega arith,
-)
+pub loop-line-init : goal.loop-line-init
+loop-line-init c =
+    let script = c.args.script.now in
+    let page = c.args.page.now in
+    let total = 31 * length (lines script) in
+    subst (λ (bs : List ℕ). Underway (length script ≤ 32768) (script_text (lines script)) (script_text (lines bs)) page page (31 * length (lines bs)) total × (length bs ≤ length script))
+    (sym c.new-lines.ensures)
+    (underway_none (length script ≤ 32768) (script_text (lines script)) page total, omega arith)
 
--- an engine that was made has at most 256 words
-pub run_kind-requires : goal.run_kind-requires
-run_kind-requires c = made_words c.in-Made.engine c.in-Made.set_up (line_view c.in-Some.cut.first) c.in-Made.ensures
-
-pub returns-in-Made : goal.returns-in-Made
-returns-in-Made c =
-    let rest = lines c.in-Some.cut.rest.now in
-    let engine = c.in-Made.engine in
-    let cut = c.in-Some.ensures in
-    let done =
-    underway_last (policy_text engine.policy (new_world c.in-Made.set_up (replicate engine.words 0)) rest)
-    c.loop-cut.invariant.0
-    (script_text_made c.in-Made.set_up engine (line_view c.in-Some.cut.first) rest (lines c.loop-cut.rest.now) cut.lines c.in-Made.ensures)
-    c.run_kind.ensures.after
-    c.run_kind.ensures.end
-    (λ small.
-    let within : length c.in-Some.cut.rest.now ≤ 32768 = omega (arith, cut.shorter, c.loop-cut.invariant.1) in
-    omega (arith, c.run_kind.ensures.brief within, ap length cut.lines)) in
-    record { after = done.all.output; end = done.all.place; brief = λ small. omega (arith, done.short small) }
-
-pub loop-cut-preserved : goal.loop-cut-preserved
-loop-cut-preserved c =
-    let line = line_view c.in-Some.cut.first in
-    let rest = lines c.in-Some.cut.rest.now in
-    let cut = c.in-Some.ensures in
-    let reply = c.in-Answered.reply in (
+pub loop-line-preserved : goal.loop-line-preserved
+loop-line-preserved c =
+    let line = line_view c.in-Some.line in
+    let rest = lines c.next.new.self in
+    let cut = c.in-Some.ensures.steps in
+    let reply = c.in-Err.reply in (
       underway_more (reply_text reply) (script_text rest)
-          c.loop-cut.invariant.0
-          (script_text_more reply line rest (lines c.loop-cut.rest.now) cut.lines c.in-Answered.ensures)
-          c.print-at.ensures.after
-          c.print-at.ensures.end
+          c.loop-line.invariant.0
+          (script_text_more reply line rest (lines c.loop-line.lines) (sym cut.0) c.in-Err.ensures)
+          c.print.ensures.printed
           (λ small.
-          let within : reply_column reply ≤ 32769 = omega (arith, opening_within line reply c.in-Answered.ensures, line_within line rest c.loop-cut.rest.now cut.lines, c.loop-cut.invariant.1) in
-          omega (arith, c.print-at.ensures.brief within, ap length cut.lines)),
-      omega (arith, cut.shorter, c.loop-cut.invariant.1),
+          let within : reply_column reply ≤ 32769 = omega (arith, opening_within line reply c.in-Err.ensures, line_within line rest c.loop-line.lines (sym cut.0), c.loop-line.invariant.1) in
+          omega (arith, c.print.ensures.brief within, ap length cut.0)),
+      omega (arith, cut.1, c.loop-line.invariant.1),
     )
+
+pub returns-in-Ok : goal.returns-in-Ok
+returns-in-Ok c =
+    let opening = c.in-Ok.opening in
+    let line = line_view c.in-Some.line in
+    let rest = c.next.new.self in
+    let cut = c.in-Some.ensures.steps in
+    let world = new_world opening.set_up (replicate opening.engine.words 0) in
+    let on_engine = answered_by_policy opening.engine.policy world rest _ _ _ c.make_engine.ensures in
+    let done =
+    underway_last (policy_text opening.engine.policy world (lines rest))
+    c.loop-line.invariant.0
+    (script_text_made opening line (lines rest) (lines c.loop-line.lines) (sym cut.0) c.in-Ok.ensures)
+    on_engine.printed
+    (λ small.
+    let within : length rest ≤ 32768 = omega (arith, cut.1, c.loop-line.invariant.1) in
+    omega (arith, on_engine.brief within, ap length cut.0)) in
+    record { printed = done.all; brief = λ small. omega (arith, done.short small) }
 
 pub returns : goal.returns
 returns c =
-    let done = underway_all c.loop-cut.invariant.0 (script_text_none (lines c.loop-cut.rest.now) c.in_default.ensures.lines) in
-    record { after = done.all.output; end = done.all.place; brief = λ small. omega (arith, done.short small) }
+    let done = underway_all c.loop-line.invariant.0 (script_text_none (lines c.loop-line.lines) (sym c.in_default.ensures.steps.0.0)) in
+    record { printed = done.all; brief = λ small. omega (arith, done.short small) }

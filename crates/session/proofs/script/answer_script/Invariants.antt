@@ -4,11 +4,11 @@ use Rattle.session.proofs.script.answer_script.Given as goal
 use Rattle.session.specs.Scripts.{script_text}
 use Rattle.text.specs.Lines.{lines}
 
-abbrev pub invariant-loop-cut : goal.invariant-loop-cut
-invariant-loop-cut l =
-    Underway (length l.initial.rest ≤ 32768) 0 (script_text (lines l.initial.rest)) (script_text (lines l.rest))
-    l.initial.output l.output l.at (31 * length (lines l.rest)) (31 * length (lines l.initial.rest)) ×
-    (length l.rest ≤ length l.initial.rest)
+abbrev pub invariant-loop-line : goal.invariant-loop-line
+invariant-loop-line l =
+    Underway (length l.script ≤ 32768) (script_text (lines l.script)) (script_text (lines l.lines))
+    l.initial.page l.page (31 * length (lines l.lines)) (31 * length (lines l.script)) ×
+    (length l.lines ≤ length l.script)
 
-abbrev pub decreases-loop-cut : goal.decreases-loop-cut
-decreases-loop-cut l = length l.rest
+abbrev pub decreases-loop-line : goal.decreases-loop-line
+decreases-loop-line l = length l.lines

@@ -1,0 +1,71 @@
+ghost use Rattle.std.specs.Prelude.{◌≡◌, ◌+◌, ◌*◌, ◌≤◌, length, take};
+ghost use Rattle.printing.specs.Forms.{form_of, items_of};
+ghost use Rattle.printing.specs.Pages.{Printed};
+
+use itoa::{Buffer, Integer};
+
+// An output that was lent, and the place up to which it is written. What does not fit is cut off.
+#[derive(Drop)]
+pub struct Page<'a> {
+    output: &'a mut [u8],
+    at: usize,
+}
+
+impl<'a> Page<'a> {
+    // The page over this output, to be written from a place on.
+    pub fn new(output: &'a mut [u8], at: usize) -> Self
+        ensures output { result.output ≡ output.entry }
+        ensures at { result.at ≡ at }
+    {
+        Page { output, at }
+    }
+
+    // Where what is written ends.
+    pub fn end(&self) -> usize
+        ensures { result ≡ self.now.at }
+    {
+        self.at
+    }
+
+    // The output up to there.
+    pub fn written(&self) -> &[u8]
+        ensures { result.now ≡ take self.now.at self.now.output.now }
+    {
+        &self.output[..self.output.len().min(self.at)]
+    }
+
+    // Prints a form of this name and these numbers.
+    // Not by `write!`: that may end in an error, where nothing is known, and what is printed here is promised whole.
+    pub fn print_form<I: Integer>(&mut self, name: &[u8], numbers: &[I])
+        ensures printed { Printed (form_of I.text name.now numbers.now) self.old self.new }
+        ensures short { length (form_of I.text name.now numbers.now) ≤ length name.now + 3 + length numbers.now * (I.MAX_STR_LEN + 1) }
+    {
+        self.put(b"(");
+        self.put(name);
+        self.put_items(numbers);
+        self.put(b")\n");
+    }
+
+    // Puts numbers, a space before each.
+    fn put_items<I: Integer>(&mut self, numbers: &[I])
+        ensures printed { Printed (items_of I.text numbers.now) self.old self.new }
+        ensures short { length (items_of I.text numbers.now) ≤ length numbers.now * (I.MAX_STR_LEN + 1) }
+    {
+        for number in numbers {
+            self.put(b" ");
+            self.put(Buffer::new().format(*number).as_bytes());
+        }
+    }
+
+    // Puts bytes, as far as there is room.
+    fn put(&mut self, text: &[u8])
+        ensures { Printed text.now self.old self.new }
+    {
+        let Page { output, at } = self;
+        if *at < output.len() {
+            let count = text.len().min(output.len() - *at);
+            output[*at..*at + count].copy_from_slice(&text[..count]);
+            *at += count;
+        }
+    }
+}
