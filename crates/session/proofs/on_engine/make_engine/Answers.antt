@@ -18,6 +18,6 @@ pub returns-in-Registers : goal.returns-in-Registers
 returns-in-Registers g c =
     let opening = c.args.opening in
     let words = opening.engine.words in
-    let lent : c.new-store-in-Registers.result.registers.now ≡ take (2 * words - 0) (drop 0 (replicate 512 0)) = ap (λ x. x.now) c.new-store-in-Registers.ensures in
+    let lent : c.new-store-in-Registers.result.cells.now ≡ take (2 * words - 0) (drop 0 (replicate 512 0)) = ap (λ x. x.now) c.new-store-in-Registers.ensures in
     let zeros = ap (λ l. held (paired l)) lent ∙ registers_of_zeros words opening.small in
     subst (λ (ws : List ℕ). by_policy g.T.OnEngine.does opening.engine.policy (new_world opening.set_up ws) c.args.then c.args.beside.now c.make_over-in-Registers.new.beside c.make_over-in-Registers.result) zeros c.make_over-in-Registers.ensures
