@@ -1,10 +1,9 @@
 -- Lines, tokens and places of the code as the definitions see them: a borrowed part by its bytes.
-use Rattle.std.specs.Prelude.{ℕ, ◌<◌, List, [], ◌∷◌, length, Some, None, Option, OnSome}
+use Rattle.std.specs.Prelude.{ℕ, ◌<◌, List, length, Option, OnSome}
 use Rattle.std.specs.Iterator.{YieldsFirstBy}
 use Rattle.text.specs.Lines.{Line, lines}
 use Rattle.text.specs.Tokens.{Token, opening, closing, name, number, end, Spot, Taken}
 use Rattle.text.specs.declared.cursor.Cursor.{Cursor}
-use Rattle.text.specs.declared.line.Cut.{Cut}
 use Rattle.text.specs.declared.line.Line.{Line as LineCell}
 use Rattle.text.specs.declared.token.Token.{Token as TokenCell}
 use Rattle.text.specs.declared.token.Token.TheVariants.{Open, Close, Name, Number, End}
@@ -32,13 +31,3 @@ spot c = record { size = length c.line.now; rest = c.rest.now }
 -- a token and the place behind it
 abbrev pub taken_view : TokenCell × Cursor → Taken
 taken_view t = record { token = token_view t.0; after = spot t.1 }
-
--- the lines of a script that is cut behind its first
-abbrev pub cut_lines : Option Cut → List Line
-cut_lines None = []
-cut_lines (Some c) = line_view c.first ∷ lines c.rest.now
-
--- what is behind the first line is shorter than the script
-abbrev pub Shorter : Option Cut → List ℕ → Type 0
-Shorter None bs = Unit {0}
-Shorter (Some c) bs = length c.rest.now < length bs

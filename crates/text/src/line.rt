@@ -1,6 +1,5 @@
 ghost use Rattle.std.specs.Prelude.{◌≡◌, length};
 ghost use Rattle.text.specs.Lines.{lines};
-ghost use Rattle.text.specs.Views.{cut_lines, Shorter};
 
 use crate::split::split_while;
 use std::marker::Model;
@@ -70,26 +69,6 @@ impl<'a> Iterator for Lines<'a> {
             }
         }
     }
-}
-
-// A script that is cut behind its first line.
-#[derive(Clone, Copy)]
-pub struct Cut<'a> {
-    pub first: Line<'a>,
-    pub rest: &'a [u8],
-}
-
-// The first line of a script and the bytes behind it; none of an empty script.
-pub fn first_line<'a>(script: &'a [u8]) -> Option<Cut<'a>>
-    ensures lines { cut_lines result ≡ lines script.now }
-    ensures shorter { Shorter result script.now }
-{
-    let mut lines = Lines::new(script);
-    let first = lines.next()?;
-    Some(Cut {
-        first,
-        rest: lines.rest(),
-    })
 }
 
 // How many lines a script has; bytes behind the last line feed are one more.

@@ -1,5 +1,5 @@
 use crate::cursor::Cursor;
-use crate::line::{Line, Lines, first_line, line_count};
+use crate::line::{Line, Lines, line_count};
 use crate::numeral::numeral;
 use crate::place::check_text;
 use std::test::Fail;
@@ -37,11 +37,8 @@ fn numbers_stop_at_32_bits(rt: HostRuntime) {
 }
 
 #[test]
-fn a_script_has_its_lines(rt: HostRuntime) -> Result<(), Fail> {
+fn a_script_has_its_lines(rt: HostRuntime) {
     assert!(rt; line_count(b"(a)\n\n(b") == 3);
-    let cut = first_line(b"(a)\n\n(b").ok_or("no line")?;
-    assert!(rt; cut.first.bytes.len() == 3 && cut.first.ended && cut.rest.len() == 3);
-    Ok(())
 }
 
 #[test]
