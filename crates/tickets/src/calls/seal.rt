@@ -7,9 +7,9 @@ ghost use Rattle.tickets.specs.Hands.{seal_hand};
 
 use crate::outcomes::{Kept, Sealing};
 use crate::tasks::Tasks;
-use crate::ticket::{self, Idle, OpenTicket};
+use crate::ticket::{Idle, OpenTicket, Sealed};
 use contention::policy::Policy;
-use rules::ending::Sealed;
+use rules::ending;
 use rules::stop::Stop;
 use stores::word_store::WordStore;
 
@@ -23,12 +23,12 @@ impl<S: WordStore, P: Policy> Tasks<S, P> {
     {
         // A `match`, since both ways take the ticket: in a chain of `map` and `map_err` only one could.
         match self.memory.seal(ticket.thread().number()) {
-            Ok(Sealed::Reader { snapshot }) => Ok(Sealing::Reader {
+            Ok(ending::Sealed::Reader { snapshot }) => Ok(Sealing::Reader {
                 ticket: ticket.into_state(Idle),
                 snapshot,
             }),
-            Ok(Sealed::Updater { ticket: number }) => Ok(Sealing::Updater {
-                ticket: ticket.into_state(ticket::Sealed { number }),
+            Ok(ending::Sealed::Updater { ticket: number }) => Ok(Sealing::Updater {
+                ticket: ticket.into_state(Sealed { number }),
                 number,
             }),
             Err(reason) => Err(Kept { ticket, reason }),
