@@ -43,7 +43,8 @@ impl<'a> Page<'a> {
         self.put(b"(");
         self.put(name);
         self.put_items(numbers);
-        self.put(b")\n");
+        self.put(b")");
+        self.put(b"\n");
     }
 
     // Puts numbers, a space before each.
@@ -51,9 +52,10 @@ impl<'a> Page<'a> {
         ensures printed { Printed (items_of I.text numbers.now) self.old self.new }
         ensures short { length (items_of I.text numbers.now) ≤ length numbers.now * (I.MAX_STR_LEN + 1) }
     {
+        let mut digits = Buffer::new();
         for number in numbers {
             self.put(b" ");
-            self.put(Buffer::new().format(*number).as_bytes());
+            self.put(digits.format(*number).as_bytes());
         }
     }
 

@@ -1,4 +1,4 @@
-use Rattle.std.proofs.Common.{◌≡◌, ℕ, ◌-◌, ◌*◌, List, take, drop, replicate, ap, ◌∙◌, subst}
+use Rattle.std.proofs.Common.{ℕ, List, ap, ◌∙◌, subst}
 use Rattle.rules.specs.NewEngine.{new_world}
 use Rattle.session.proofs.Stores.{cells_of_zeros, registers_of_zeros}
 use Rattle.session.proofs.on_engine.make_engine.Goals as goal
@@ -10,7 +10,7 @@ pub returns-in-Plain : goal.returns-in-Plain
 returns-in-Plain g c =
     let opening = c.args.opening in
     let words = opening.engine.words in
-    let lent : c.new-store.result.cells.now ≡ take (words - 0) (drop 0 (replicate 256 0)) = ap (λ x. x.now) c.new-store.ensures in
+    let lent = ap (λ x. x.now) c.new-store.ensures in
     let zeros = ap held lent ∙ cells_of_zeros words opening.small in
     subst (λ (ws : List ℕ). by_policy g.T.OnEngine.does opening.engine.policy (new_world opening.set_up ws) c.args.then c.args.beside.now c.make_over.new.beside c.make_over.result) zeros c.make_over.ensures
 
@@ -18,6 +18,6 @@ pub returns-in-Registers : goal.returns-in-Registers
 returns-in-Registers g c =
     let opening = c.args.opening in
     let words = opening.engine.words in
-    let lent : c.new-store-in-Registers.result.cells.now ≡ take (2 * words - 0) (drop 0 (replicate 512 0)) = ap (λ x. x.now) c.new-store-in-Registers.ensures in
+    let lent = ap (λ x. x.now) c.new-store-in-Registers.ensures in
     let zeros = ap (λ l. held (paired l)) lent ∙ registers_of_zeros words opening.small in
     subst (λ (ws : List ℕ). by_policy g.T.OnEngine.does opening.engine.policy (new_world opening.set_up ws) c.args.then c.args.beside.now c.make_over-in-Registers.new.beside c.make_over-in-Registers.result) zeros c.make_over-in-Registers.ensures
