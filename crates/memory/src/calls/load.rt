@@ -18,9 +18,7 @@ impl<S: WordStore, P: Policy> Memory<S, P> {
         ensures { Did S.words S.home P.moved self.old self.new (load_answer result) (load (P.table self.old.policy) (world S.words self.old) thread address) }
     {
         let id = self.engine.admit(Kind::Load, thread)?;
-        if address >= self.words.size() {
-            return Err(Stop::Refused(Refusal::NoSuchPlace));
-        }
+        self.words.check(address)?;
         if let Some(entry) = self.engine.threads[id].writes.find(address) {
             self.policy.loaded(id);
             return Ok(entry.word);

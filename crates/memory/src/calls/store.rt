@@ -18,9 +18,7 @@ impl<S: WordStore, P: Policy> Memory<S, P> {
         ensures { Did S.words S.home P.moved self.old self.new (store_answer result) (store (P.table self.old.policy) (world S.words self.old) thread address word) }
     {
         let id = self.engine.admit(Kind::Store, thread)?;
-        if address >= self.words.size() {
-            return Err(Stop::Refused(Refusal::NoSuchPlace));
-        }
+        self.words.check(address)?;
         if self.engine.threads[id].writes.find(address).is_some() {
             self.engine
                 .threads
