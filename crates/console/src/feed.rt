@@ -12,8 +12,8 @@ pub struct Feed {
 }
 
 impl Feed {
-    // Nothing has come in yet.
-    pub fn new(rt: &HostRuntime) -> anyhow::Result<Feed> {
+    // Nothing has come in yet. It may fail, since it makes the room in which it reads.
+    pub fn open(rt: &HostRuntime) -> anyhow::Result<Feed> {
         let most = MOST_BYTES + 1;
         Ok(Feed {
             input: BufReader::with_capacity(rt.alloc(), most, rt.stdin().take(most as u64))?,

@@ -15,7 +15,7 @@ use stores::word_store::WordStore;
 // Answers standard input, each line before the next is awaited.
 // A loop needs a bound, and std says too little of a read for a measure: no script has more lines than bytes.
 pub fn answer_input(rt: &HostRuntime) -> anyhow::Result<()> {
-    let mut feed = Feed::new(rt)?;
+    let mut feed = Feed::open(rt)?;
     for _ in 0..=MOST_BYTES {
         let Some(line) = feed.next_line()? else {
             break;
