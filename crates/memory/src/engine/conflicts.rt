@@ -14,7 +14,8 @@ use layout::stripe_id::StripeId;
 use rules::phase::Phase;
 
 impl Engine {
-    // Whether this owner of a stripe is another thread that is sealed.
+    // Whether this owner of a stripe is another thread that is sealed. A thread and an owner come as two parameters, here and
+    // below: one is the caller's, the other lies in a stripe, and a struct of both would be made for each call.
     pub(crate) fn is_busy(&self, thread: ThreadId, owner: Option<ThreadId>) -> bool
         ensures { result ≡ busy_by (engine_view self.now) thread.number (owner_number owner) }
     {
