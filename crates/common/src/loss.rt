@@ -27,7 +27,8 @@ impl Loss {
         }
     }
 
-    // The thread or the stripe that the cause names; 0 for a spent clock.
+    // The thread or the stripe that the cause names; 0 for a spent clock. It is no Option, since the formats print a
+    // number for every loss.
     pub fn detail(self) -> u32
         ensures { result ≡ loss_detail self }
     {

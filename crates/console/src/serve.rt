@@ -12,7 +12,8 @@ use session::turn::answer_line;
 use std::io::Write;
 use stores::word_store::WordStore;
 
-// Answers standard input, each line before the next is awaited.
+// Answers standard input, each line before the next is awaited. It is no one function with the session's, which answers a
+// script in memory: what is read and printed here can fail.
 // A loop needs a bound, and std says too little of a read for a measure: no script has more lines than bytes.
 pub fn answer_input(rt: &HostRuntime) -> anyhow::Result<()> {
     let mut feed = Feed::open(rt)?;
@@ -43,7 +44,7 @@ struct Typed<'a> {
     rt: &'a HostRuntime,
 }
 
-// It is answered on the engine, each line before the next is awaited.
+// It is answered on the engine, each line before the next is awaited. The loop has the bound of the one above.
 impl<'a> OnEngine<Feed> for Typed<'a> {
     type Outcome = anyhow::Result<()>;
 

@@ -3,7 +3,7 @@ ghost use Rattle.contention.specs.Policies.{no_points, each_beats_other, unmoved
 use crate::policy::Policy;
 use common::thread_id::ThreadId;
 
-// Each thread beats each other: who finds a stripe held takes it.
+// Each thread beats each other: who finds a stripe held takes it. At Suicide stands why the two are not one type.
 #[derive(Clone, Copy)]
 pub struct Aggressive;
 

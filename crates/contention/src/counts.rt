@@ -4,7 +4,7 @@ ghost use Rattle.contention.specs.Ranks.{no_counts, count_of, grown, cleared, ou
 use common::thread_id::ThreadId;
 use std::cmp::Reverse;
 
-// A count for each thread. A count stops at `u32::MAX`.
+// A count for each thread, in an array in place, since nothing allocates. A count stops at `u32::MAX`.
 #[derive(Clone, Copy)]
 pub struct Counts {
     cells: [u32; 8],

@@ -6,6 +6,7 @@ use crate::policy::Policy;
 use common::thread_id::ThreadId;
 
 // The thread that won over more since its last seal beats: a winner takes over what the loser had won.
+// At Karma stands why the two are not one type.
 #[derive(Clone, Copy)]
 pub struct KillPrio {
     counts: Counts,

@@ -5,6 +5,7 @@ use crate::policy::Policy;
 use common::thread_id::ThreadId;
 use std::test::Fail;
 
+// The thread of a number.
 fn thread(number: u32) -> Result<ThreadId, &'static str> {
     ThreadId::new(number).ok_or("no such thread")
 }

@@ -54,3 +54,15 @@ impl<'a, S: WordStore, P: Policy> Drive<'a, S, P> {
         Ok(())
     }
 }
+
+// Shows something on a new drive over a store; the drive is gone after it, so that its cells can be read.
+pub(crate) fn on_drive<
+    S: WordStore + Drop,
+    P: Policy + Drop,
+    F: FnOnce(&mut Drive<'_, S, P>) -> io::Result<()>,
+>(rt: &HostRuntime, store: S, policy: P, show: F) -> io::Result<()>
+    requires { F.IsAlwaysCallable show }
+{
+    let mut drive = Drive::new(rt, three_tasks()?, store, policy);
+    show(&mut drive)
+}

@@ -1,4 +1,4 @@
-use crate::drive::{Drive, three_tasks};
+use crate::drive::{Drive, on_drive};
 use crate::names::{FACTORY, Settings, Task, WORDS, Word};
 use crate::page;
 use contention::policy::Policy;
@@ -27,12 +27,8 @@ pub fn show(rt: &HostRuntime) -> io::Result<()> {
         rt,
         "1. The keypad changes three words in one transaction (plain store, Suicide)",
     )?;
-    let set_up = three_tasks()?;
     let mut cells = [0; WORDS];
-    let mut drive = Drive::new(rt, set_up, PlainStore::new(&mut cells), Suicide);
-    let shown = all_old_or_all_new(&mut drive);
-    drop(drive);
-    shown?;
+    on_drive(rt, PlainStore::new(&mut cells), Suicide, all_old_or_all_new)?;
     println!(rt; "\nThe cells of the plain store: {cells:?}\n")
 }
 

@@ -10,7 +10,7 @@ pub enum Task {
     ControlLoop,
     // The fieldbus, thread 3.
     Fieldbus,
-    // A thread number that no task of this drive has.
+    // A thread number that no task of this drive has, in calls that are refused.
     Unknown(u32),
 }
 
@@ -98,7 +98,7 @@ impl Task {
     }
 }
 
-// A word that the tasks share, by its address.
+// A word that the tasks share, by its address. It is no one type with Task: a word is no task, and each lists its own names.
 #[derive(Clone, Copy)]
 pub enum Word {
     // The ramp time in milliseconds, at address 0.
@@ -107,7 +107,7 @@ pub enum Word {
     Speed,
     // The current limit in milliamperes, at address 2.
     CurrentLimit,
-    // An address that this drive has no word at.
+    // An address that this drive has no word at, in calls that are refused.
     Unknown(u32),
 }
 

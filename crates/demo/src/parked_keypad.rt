@@ -1,4 +1,4 @@
-use crate::drive::{Drive, three_tasks};
+use crate::drive::{Drive, on_drive};
 use crate::names::{FACTORY, Task, WORDS, Word};
 use crate::page;
 use contention::aggressive::Aggressive;
@@ -25,13 +25,9 @@ pub fn show(rt: &HostRuntime) -> io::Result<()> {
         rt,
         "2. The parked keypad loses its stripe at once (register store, Aggressive)",
     )?;
-    let set_up = three_tasks()?;
     let mut registers = [0; REGISTERS];
     let store = RegisterStore::new(&mut registers);
-    let mut drive = Drive::new(rt, set_up, store, Aggressive);
-    let shown = taken_at_once(&mut drive);
-    drop(drive);
-    shown?;
+    on_drive(rt, store, Aggressive, taken_at_once)?;
     println!(rt; "\nThe registers, two to a word: {registers:?}\n")
 }
 

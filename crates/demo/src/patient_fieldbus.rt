@@ -1,4 +1,4 @@
-use crate::drive::{Drive, three_tasks};
+use crate::drive::{Drive, on_drive};
 use crate::names::{FACTORY, Task, WORDS, Word};
 use crate::page;
 use crate::parked_keypad::{FIELDBUS_SPEED, park, wake};
@@ -24,13 +24,9 @@ pub fn show(rt: &HostRuntime) -> io::Result<()> {
         rt,
         "3. The parked keypad loses its stripe to more work (window of a plain store, Karma)",
     )?;
-    let set_up = three_tasks()?;
     let mut cells = [FOREIGN; CELLS];
     let window = Window::new(PlainStore::new(&mut cells), BASE, WORDS as u32);
-    let mut drive = Drive::new(rt, set_up, window, Karma::new());
-    let shown = earned(&mut drive);
-    drop(drive);
-    shown?;
+    on_drive(rt, window, Karma::new(), earned)?;
     println!(rt; "\nThe cells, {WORDS} of them in the window from cell {BASE} on: {cells:?}\n")
 }
 

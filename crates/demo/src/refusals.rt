@@ -1,4 +1,4 @@
-use crate::drive::{CLOCK_LIMIT, Drive, SHIFT, STRIPES, THREADS, three_tasks};
+use crate::drive::{CLOCK_LIMIT, Drive, SHIFT, STRIPES, THREADS, on_drive};
 use crate::names::{FACTORY, Task, WORDS, Word};
 use crate::page;
 use crate::service::{take_apart, try_set_up};
@@ -16,12 +16,8 @@ const NO_LOCK_WORD: u64 = 1 << 32;
 pub fn show(rt: &HostRuntime) -> io::Result<()> {
     page::heading(rt, "4. What does not fit is refused (plain store, Suicide)")?;
     set_ups(rt)?;
-    let set_up = three_tasks()?;
     let mut cells = [0; WORDS];
-    let mut drive = Drive::new(rt, set_up, PlainStore::new(&mut cells), Suicide);
-    let shown = calls(&mut drive);
-    drop(drive);
-    shown?;
+    on_drive(rt, PlainStore::new(&mut cells), Suicide, calls)?;
     page::note(
         rt,
         "Bits that name an owner without saying that there is one.",

@@ -21,6 +21,7 @@ struct Step {
 }
 
 // The clock is spent and rolls over; the calls are made as one list.
+// The turns lie in a list of their own, since `run` takes turns, and a turn has no note.
 pub fn show(rt: &HostRuntime) -> io::Result<()> {
     println!(rt; "")?;
     page::heading(

@@ -6,8 +6,10 @@ use common::refusal::Refusal;
 use std::mem::size_of;
 use std::test::Fail;
 
+// The highest version, and the highest clock limit.
 const TOP: u32 = 0x7fff_ffff;
 
+// What stands in the places of a log that are not used yet.
 const BLANK: WriteEntry = WriteEntry {
     address: 0,
     word: 0,

@@ -5,6 +5,7 @@ ghost use Rattle.printing.specs.Pages.{Printed};
 use itoa::{Buffer, Integer};
 
 // An output that was lent, and the place up to which it is written. What does not fit is cut off.
+// It is a slice and a place, since nothing allocates and C lends the output.
 #[derive(Drop)]
 pub struct Page<'a> {
     output: &'a mut [u8],

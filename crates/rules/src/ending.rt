@@ -3,7 +3,7 @@ ghost use Rattle.rules.specs.Endings.{ending_cause, ending_detail};
 
 use common::loss::Loss;
 
-// How a sealed transaction stands.
+// How a sealed transaction stands. It is no Result and no Option: both ways are good ones, with a number each.
 #[derive(Clone, Copy, PartialEq, Eq, Debug)]
 pub enum Sealed {
     // It stored nothing: it read the words of this moment, and its thread is idle again.

@@ -19,6 +19,8 @@ use stores::register::RegisterStore;
 use stores::word_store::WordStore;
 
 // What is done on the engine that a line makes, whatever its store and its policy, with what stands beside it.
+// It is a trait and no closure, since a closure takes a memory of one store and one policy. What stands beside it comes as
+// a parameter of its own: no proof was found that the lender of a page inside of it learns what was printed.
 pub trait OnEngine<C> {
     // What comes of it.
     type Outcome;

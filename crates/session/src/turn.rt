@@ -17,10 +17,7 @@ pub fn answer_line<S: WordStore, P: Policy>(memory: &mut Memory<S, P>, line: Lin
 {
     match read_form(line, true) {
         Ok(Form::Call(call)) => Reply::Answered(memory.perform(call)),
-        Ok(Form::Peek { stripe }) => match memory.peek(stripe) {
-            Ok(bits) => Reply::Lock(bits),
-            Err(refusal) => Reply::from(refusal),
-        },
+        Ok(Form::Peek { stripe }) => memory.peek(stripe).map_or_else(Reply::from, Reply::Lock),
         Ok(Form::Engine(_)) => Reply::Fault(FormFault::Order),
         Err(fault) => Reply::from(fault),
     }

@@ -54,7 +54,8 @@ impl<'a, C: WordCell> WordStore for &'a mut [C] {
     }
 }
 
-// A store over lent cells of one kind.
+// A store over lent cells of one kind, which calls the functions of the slice. It stands beside the slice for its names
+// and its `new`, which callers use.
 #[derive(Drop)]
 pub struct CellStore<'a, C> {
     cells: &'a mut [C],

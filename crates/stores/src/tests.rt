@@ -19,7 +19,7 @@ fn put_cell(cells: &mut [u32], address: u32, word: u32) -> Result<(), Refusal>
     store.write(address, word)
 }
 
-// So does the lender of registers.
+// So does the lender of registers. This is no one function with the one above: each says all cells of its own kind.
 #[tactic(auto, using(crate::proofs::Registers::registers_whole))]
 fn put_pair(registers: &mut [u16], address: u32, word: u32) -> Result<(), Refusal>
     ensures { registers.new ≡ halved (slice_set (held (paired registers.old)) address word) ++ unpaired registers.old }

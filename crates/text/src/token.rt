@@ -2,7 +2,8 @@ ghost use Rattle.std.specs.Prelude.{◌≡◌};
 ghost use Rattle.text.specs.Views.{token_view};
 ghost use Rattle.text.specs.Tokens.{column_of};
 
-// A part of a line, with the column of its first byte, counted from 1.
+// A part of a line, with the column of its first byte, counted from 1. The column stands in each variant and not beside the
+// enum, so that one pattern takes a token apart.
 #[derive(Clone, Copy)]
 pub enum Token<'a> {
     // An opening bracket.

@@ -4,7 +4,8 @@ ghost use Rattle.common.specs.Threads.{thread_number, numbered};
 use super::ThreadId;
 
 impl ThreadId {
-    // The thread of this number, if it is 1 to 8.
+    // The thread of this number, if it is 1 to 8. It is no TryFrom: whoever asks says by an error of its own why there is
+    // none, so this has none to give, as `NonZero::new` has none.
     pub fn new(number: u32) -> Option<ThreadId>
         ensures { numbered result ≡ thread_number number }
     {

@@ -7,7 +7,8 @@ use common::refusal::Refusal;
 use common::thread_id::ThreadId;
 
 impl SetUp {
-    // The set-up of these numbers, or the first of them that is out of its limits.
+    // The set-up of these numbers, or the first of them that is out of its limits. They are four parameters and no struct:
+    // a set-up is the struct of them, once they are within their limits.
     pub fn new(threads: u32, stripes: u32, shift: u32, limit: u32) -> Result<SetUp, Refusal>
         ensures { numbers_of result ≡ set_up_or_refusal threads stripes shift limit }
     {

@@ -14,8 +14,8 @@ use layout::stripe_id::StripeId;
 use rules::phase::Phase;
 
 impl Engine {
-    // Whether this owner of a stripe is another thread that is sealed. Here and below the caller and the owner come apart,
-    // as the rules take them.
+    // Whether this owner of a stripe is another thread that is sealed. Here and below the caller and the owner come apart, as
+    // the rules take them: one is the caller's, the other lies in a stripe.
     pub(crate) fn is_busy(&self, thread: ThreadId, owner: Option<ThreadId>) -> bool
         ensures { result ≡ busy_by (engine_view self.now) thread.number (owner_number owner) }
     {

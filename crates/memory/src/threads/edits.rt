@@ -35,7 +35,7 @@ impl Thread {
         self.reads.find(stripe.number()).is_some()
     }
 
-    // Whether the read log is full.
+    // Whether the read log is full. The proof of a load did not close with `reads.is_full()` in place of this.
     pub(crate) fn reads_full(&self) -> bool
         ensures { result ≡ is_full (thread_view self.now).reads }
     {
@@ -59,7 +59,7 @@ impl Thread {
         let _ = self.reads.push(entry);
     }
 
-    // Notes a word that is to be written.
+    // Notes a word that is to be written. It is no one function with the one above: each says which log grows.
     pub(crate) fn note_write(&mut self, entry: WriteEntry)
         ensures { thread_view self.new ≡ with_writes (thread_view self.old) (grown (thread_view self.old).writes entry) }
     {
