@@ -15,12 +15,8 @@ pub fn answer_file(rt: &HostRuntime, path: &str) -> anyhow::Result<()> {
     }
     let room = line_count(&script).saturating_mul(BYTES_FOR_A_LINE);
     let mut output = vec![in rt.alloc(); 0u8; room]?;
-    match run_script(&script, &mut output) {
-        Ok(end) => {
-            output.truncate(end);
-            rt.stdout().write_all(&output)?;
-            Ok(())
-        }
-        Err(_) => Err(anyhow::Error::msg(TOO_LONG)),
-    }
+    let end = run_script(&script, &mut output).map_err(|_| anyhow::Error::msg(TOO_LONG))?;
+    output.truncate(end);
+    rt.stdout().write_all(&output)?;
+    Ok(())
 }

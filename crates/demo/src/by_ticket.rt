@@ -1,5 +1,5 @@
 use crate::answers::Told;
-use crate::drive::three_tasks;
+use crate::drive::{CLOCK_LIMIT, three_tasks};
 use crate::names::{FACTORY, Task, WORDS, Word};
 use crate::page;
 use contention::policy::Policy;
@@ -24,7 +24,7 @@ struct Desk<'a, S, P> {
 pub fn show(rt: &HostRuntime) -> io::Result<()> {
     println!(rt; "")?;
     page::heading(rt, "6. The keypad change by tickets (plain store, Suicide)")?;
-    let set_up = three_tasks()?;
+    let set_up = three_tasks(CLOCK_LIMIT)?;
     let mut cells = [0; WORDS];
     let mut other_cells = [0; WORDS];
     let tasks = Tasks::new(set_up, PlainStore::new(&mut cells), Suicide);

@@ -26,9 +26,9 @@ pub struct Drive<'a, S, P> {
     pub(crate) memory: Memory<S, P>,
 }
 
-// The set-up of every drive here.
-pub fn three_tasks() -> io::Result<SetUp> {
-    SetUp::new(THREADS, STRIPES, SHIFT, CLOCK_LIMIT).map_err(|_| io::Error::other(
+// The set-up of every drive here, with this clock limit.
+pub fn three_tasks(limit: u32) -> io::Result<SetUp> {
+    SetUp::new(THREADS, STRIPES, SHIFT, limit).map_err(|_| io::Error::other(
         "the set-up is refused",
     ))
 }
@@ -63,6 +63,6 @@ pub(crate) fn on_drive<
 >(rt: &HostRuntime, store: S, policy: P, show: F) -> io::Result<()>
     requires { F.IsAlwaysCallable show }
 {
-    let mut drive = Drive::new(rt, three_tasks()?, store, policy);
+    let mut drive = Drive::new(rt, three_tasks(CLOCK_LIMIT)?, store, policy);
     show(&mut drive)
 }

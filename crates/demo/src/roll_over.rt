@@ -1,17 +1,16 @@
-use crate::drive::{SHIFT, STRIPES, THREADS};
+use crate::drive::three_tasks;
 use crate::names::{Task, WORDS, Word};
 use crate::page;
 use contention::suicide::Suicide;
 use history::run::run;
 use history::turn::Turn;
-use layout::set_up::SetUp;
 use rules::call::Call;
 use std::alloc::AllocError;
 use std::io;
 use stores::plain::PlainStore;
 
 // A clock that is spent after three changes.
-const CLOCK_LIMIT: u32 = 3;
+const THREE_CHANGES: u32 = 3;
 
 // A call, and what is said before it.
 #[derive(Clone, Copy)]
@@ -28,9 +27,7 @@ pub fn show(rt: &HostRuntime) -> io::Result<()> {
         rt,
         "5. The clock rolls over (plain store, Suicide, clock limit 3)",
     )?;
-    let Ok(set_up) = SetUp::new(THREADS, STRIPES, SHIFT, CLOCK_LIMIT) else {
-        return Err(io::Error::other("the set-up is refused"));
-    };
+    let set_up = three_tasks(THREE_CHANGES)?;
     let mut cells = [0; WORDS];
     let mut steps = Vec::new(rt.alloc());
     until_spent(&mut steps)?;

@@ -7,6 +7,7 @@ mod reads;
 
 // A log of at most 32 entries, held in place: the first `len` are logged, the others are blanks.
 // An array and a length, since nothing allocates and a log is copied: an `ArrayVec` is not `Copy`, and clears only what has a default.
+// It has no model: one whose view forgets the blanks gives no fields back, and is not `Copy` either.
 pub struct Log<E> {
     entries: [E; 32],
     len: u32,

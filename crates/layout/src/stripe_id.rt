@@ -4,7 +4,8 @@ mod number;
 mod picks;
 
 // The number of a stripe: 0 to 63.
-// Beside `ThreadId` and not one generic type with it: a thread is made by a test, a stripe by a mask, and their indexes differ.
+// Beside `ThreadId` and not one generic type with it: a thread counts from 1 and is made of its number alone, a stripe counts
+// from 0 and only a set-up makes one.
 #[derive(Clone, Copy, PartialEq, Eq, PartialOrd, Ord, Debug)]
 pub struct StripeId {
     number: u32,

@@ -5,7 +5,7 @@ use rules::phase::Phase;
 mod edits;
 mod table;
 
-// A thread: what it is doing, its snapshot end, and its two logs.
+// A thread: what it is doing, its snapshot end, and its two logs. It has no model, as a log has none.
 #[derive(Clone, Copy)]
 pub struct Thread {
     pub phase: Phase,

@@ -57,7 +57,8 @@ pub fn make_engine<C, T: OnEngine<C>>(opening: Opening, then: T, beside: &mut C)
     }
 }
 
-// Makes the engine over a store, with the policy of its name.
+// Makes the engine over a store, with the policy of its name. It is a match and no `dyn`: a trait with constants has no dyn
+// values, and the memory of each policy is a type of its own.
 fn make_over<S: WordStore + Drop, C, T: OnEngine<C>>(
     opening: Opening,
     store: S,

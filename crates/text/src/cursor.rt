@@ -6,7 +6,8 @@ use crate::split::split_while;
 use crate::token::Token;
 
 // A place in a line, which moves on as its tokens are taken one by one. It is no iterator: the end of a line is a
-// token too, with a column that a fault can name.
+// token too, with a column that a fault can name. It has no model, nor have a line and a token: one with a lifetime is not
+// `Copy`.
 #[derive(Clone, Copy)]
 pub struct Cursor<'a> {
     line: &'a [u8],

@@ -1,4 +1,4 @@
-// Each call says for itself that no claim changes: that is no fact of one value, which a type could keep.
+// Each call on a transaction says for itself that no claim changes: that is no fact of one value, which a type could keep.
 mod back;
 mod begin;
 mod claim;
