@@ -8,7 +8,6 @@ use crate::register::RegisterStore;
 use crate::window::Window;
 use crate::word_store::WordStore;
 use common::refusal::Refusal;
-use std::process::Abort;
 
 // The lender of cells knows all of them after a write through a store that is gone.
 #[tactic(auto, using(crate::proofs::Parts::held_whole))]
@@ -38,7 +37,7 @@ fn put_within(cells: &mut [u32], address: u32, word: u32) -> Result<(), Refusal>
 }
 
 // A store holds these words and no more.
-fn expect_words<S: WordStore>(rt: &impl Abort, store: &S, words: &[u32]) {
+fn expect_words<S: WordStore>(rt: &HostRuntime, store: &S, words: &[u32]) {
     assert_eq!(rt; store.size() as usize, words.len());
     for (address, word) in (0..store.size()).zip(words) {
         assert_eq!(rt; store.read(address), Ok(*word));
