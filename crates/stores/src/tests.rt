@@ -36,14 +36,15 @@ fn put_within(cells: &mut [u32], address: u32, word: u32) -> Result<(), Refusal>
     window.write(address, word)
 }
 
-// A store holds these words and no more.
-fn expect_words<S: WordStore>(rt: &HostRuntime, store: &S, words: &[u32]) {
-    assert_eq!(rt; store.size() as usize, words.len());
-    for (address, word) in (0..store.size()).zip(words) {
-        assert_eq!(rt; store.read(address), Ok(*word));
-    }
-    assert_eq!(rt; store.read(store.size()), Err(Refusal::NoSuchPlace));
-    assert_eq!(rt; store.check(store.size()), Err(Refusal::NoSuchPlace));
+// Whether a store holds these words and no more.
+fn holds<S: WordStore>(store: &S, words: &[u32]) -> bool {
+    let end = store.size();
+    end as usize == words.len()
+        && (0..end)
+            .zip(words)
+            .all(|(address, word)| store.read(address) == Ok(*word))
+        && store.read(end) == Err(Refusal::NoSuchPlace)
+        && store.check(end) == Err(Refusal::NoSuchPlace)
 }
 
 #[test]
@@ -55,8 +56,8 @@ fn cells_are_words(rt: HostRuntime) {
         put_cell(&mut cells, u32::MAX, 7),
         Err(Refusal::NoSuchPlace)
     );
-    expect_words(&rt, &PlainStore::new(&mut cells), &[1, u32::MAX, 3]);
-    expect_words(&rt, &cells.as_mut_slice(), &[1, u32::MAX, 3]);
+    assert!(rt; holds(&PlainStore::new(&mut cells), &[1, u32::MAX, 3]));
+    assert!(rt; holds(&cells.as_mut_slice(), &[1, u32::MAX, 3]));
     assert_eq!(rt; cells, [1, u32::MAX, 3]);
 }
 
@@ -70,8 +71,8 @@ fn registers_are_halves(rt: HostRuntime) {
     );
     assert_eq!(rt; registers, [0, 0, 1, 2, 9]);
     assert_eq!(rt; put_pair(&mut registers, 0, u32::MAX), Ok(()));
-    expect_words(&rt, &RegisterStore::new(&mut registers), &[u32::MAX, 65538]);
-    expect_words(&rt, &registers.as_mut_slice(), &[u32::MAX, 65538]);
+    assert!(rt; holds(&RegisterStore::new(&mut registers), &[u32::MAX, 65538]));
+    assert!(rt; holds(&registers.as_mut_slice(), &[u32::MAX, 65538]));
 }
 
 #[test]
