@@ -13,7 +13,7 @@ pub struct Feed {
 
 impl Feed {
     // Nothing has come in yet. It may fail, since it makes the room in which it reads.
-    pub fn open(rt: &HostRuntime) -> anyhow::Result<Feed> {
+    pub(crate) fn open(rt: &HostRuntime) -> anyhow::Result<Feed> {
         let most = MOST_BYTES + 1;
         Ok(Feed {
             input: BufReader::with_capacity(rt.alloc(), most, rt.stdin().take(most as u64))?,
@@ -22,7 +22,7 @@ impl Feed {
     }
 
     // Reads on until the next line is whole or the input ends; none if nothing is left.
-    pub fn next_line(&mut self) -> anyhow::Result<Option<Line<'_>>> {
+    pub(crate) fn next_line(&mut self) -> anyhow::Result<Option<Line<'_>>> {
         self.line.clear();
         self.input.read_until(b'\n', &mut self.line)?;
         if self.input.get_ref().limit() == 0 {

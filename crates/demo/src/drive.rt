@@ -46,7 +46,7 @@ impl<'a, S: WordStore, P: Policy> Drive<'a, S, P> {
     }
 
     // Makes calls, one after another, and prints each with its answer.
-    pub fn make(&mut self, calls: &[Call]) -> io::Result<()> {
+    pub(crate) fn make(&mut self, calls: &[Call]) -> io::Result<()> {
         for call in calls {
             let answer = self.memory.perform(*call);
             page::call(self.rt, *call, answer)?;

@@ -53,14 +53,14 @@ impl fmt::Display for Task {
 // The calls of a task.
 impl Task {
     // It begins a transaction.
-    pub fn begin(self) -> Call {
+    pub(crate) fn begin(self) -> Call {
         Call::Begin {
             thread: self.into(),
         }
     }
 
     // Its transaction loads a word.
-    pub fn load(self, word: Word) -> Call {
+    pub(crate) fn load(self, word: Word) -> Call {
         Call::Load {
             thread: self.into(),
             address: word.into(),
@@ -68,7 +68,7 @@ impl Task {
     }
 
     // Its transaction stores a value at a word.
-    pub fn store(self, word: Word, value: u32) -> Call {
+    pub(crate) fn store(self, word: Word, value: u32) -> Call {
         Call::Store {
             thread: self.into(),
             address: word.into(),
@@ -77,21 +77,21 @@ impl Task {
     }
 
     // Its transaction is sealed.
-    pub fn seal(self) -> Call {
+    pub(crate) fn seal(self) -> Call {
         Call::Seal {
             thread: self.into(),
         }
     }
 
     // Its next word is drained.
-    pub fn drain(self) -> Call {
+    pub(crate) fn drain(self) -> Call {
         Call::Drain {
             thread: self.into(),
         }
     }
 
     // It goes back from its transaction.
-    pub fn back(self) -> Call {
+    pub(crate) fn back(self) -> Call {
         Call::Back {
             thread: self.into(),
         }
@@ -157,7 +157,7 @@ pub struct Settings {
 
 impl Settings {
     // The words with their values, in the order of their addresses.
-    pub fn words(self) -> [(Word, u32); WORDS] {
+    pub(crate) fn words(self) -> [(Word, u32); WORDS] {
         [
             (Word::Ramp, self.ramp),
             (Word::Speed, self.speed),

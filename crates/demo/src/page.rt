@@ -31,7 +31,7 @@ pub fn line<W: Display + Drop, A: Display + Drop, D: Display + Drop>(
 }
 
 // Prints a call with its answer. A roll is made by the service.
-pub fn call(rt: &HostRuntime, call: Call, answer: Answer) -> io::Result<()> {
+pub(crate) fn call(rt: &HostRuntime, call: Call, answer: Answer) -> io::Result<()> {
     match call {
         Call::Begin { thread }
         | Call::Load { thread, .. }
