@@ -1,7 +1,6 @@
 -- What laying text over an output keeps, and how texts that follow one another lie there.
-use Rattle.std.proofs.Common.{◌≡◌, ℕ, zero, suc, ◌+◌, ◌-◌, ◌≤◌, min, Bool, true, false, leb, List, [], ◌∷◌, ◌++◌, length, take, drop, sym, refl, ap, ◌∙◌, arith, leb-true, leb-false, length-append, length-drop, length-take}
-use Rattle.std.proofs.lemmas.List.{nil_from_length, take_all, drop_all, drop-drop}
-use borrow.Rule.Slice.PartMut.{put_mid}
+use Rattle.std.proofs.Common.{◌≡◌, ℕ, zero, suc, ◌+◌, ◌-◌, ◌<◌, ◌≤◌, List, [], ◌∷◌, ◌++◌, length, take, drop, set, sym, refl, ap, ◌∙◌, arith, length-append, length-drop, length-take}
+use Rattle.std.proofs.lemmas.List.{nil_from_length, take_at}
 use Rattle.printing.specs.Laid.{laid, end_of}
 
 pub length_laid : (at : ℕ) (text out : List ℕ) → length (laid at text out) ≡ length out
@@ -57,32 +56,17 @@ pub end_fits : (at : ℕ) (text : List ℕ) (size : ℕ) → at + length text �
 unfolding end_of
 end_fits at text size h = omega arith
 
--- the part of a text that has room is that text, and what is behind the part lies behind the text
+-- a text that fits is what the output then has up to its end
+pub take_laid : (text out : List ℕ) → length text ≤ length out → take (end_of 0 text (length out)) (laid 0 text out) ≡ text
+take_laid text out h =
+    let end : end_of 0 text (length out) ≡ length text = omega (arith, end_fits 0 text (length out) (omega arith)) in
+    ap (λ n. take n (laid 0 text out)) end ∙ ap (take (length text)) (laid_fits text out h) ∙ take_at text (drop (length text) out) (length text) refl
 
-cut_text : (room : ℕ) (text : List ℕ) (short : Bool) → leb (length text) room ≡ short → take (min (length text) room) text ≡ take room text
-cut_text room text true e =
-    let fits = leb-true (length text) room e in
-    take_all (min (length text) room) text (omega arith) ∙ sym (take_all room text fits)
-cut_text room text false e =
-    let all : min (length text) room ≡ room = omega (arith, leb-false (length text) room e) in
-    ap (λ n. take n text) all
-
-cut_rest : (at : ℕ) (text out : List ℕ) (short : Bool) → leb (length text) (length out - at) ≡ short → at ≤ length out → drop (at + min (length text) (length out - at)) out ≡ drop (at + length text) out
-cut_rest at text out true e h =
-    let all : min (length text) (length out - at) ≡ length text = omega (arith, leb-true (length text) (length out - at) e) in
-    ap (λ n. drop (at + n) out) all
-cut_rest at text out false e h =
-    let long = leb-false (length text) (length out - at) e in
-    drop_all (at + min (length text) (length out - at)) out (omega arith) ∙ sym (drop_all (at + length text) out (omega arith))
-
--- as much of a text as there is room for, put in the place of as many bytes, is the text laid there
-pub laid_part : (at count : ℕ) (text part out : List ℕ) → at ≤ length out → count ≡ min (length text) (length out - at) → part ≡ take count text → put_mid at (at + count - at) out part ≡ laid at text out
-unfolding laid
-laid_part at count text part out h e p =
-    let room = length out - at in
-    let as_many : at + count - at ≡ count = omega arith in
-    ap (λ t. put_mid at (at + count - at) out t) (p ∙ ap (λ n. take n text) e ∙ cut_text room text (leb (length text) room) refl)
-    ∙ ap (λ r. take at out ++ (take room text ++ r)) (drop-drop (at + count - at) at out ∙ ap (λ n. drop (at + n) out) (as_many ∙ e) ∙ cut_rest at text out (leb (length text) room) refl h)
+-- a byte that is set is a text of one byte
+pub laid_byte : (at b : ℕ) (out : List ℕ) → at < length out → set out at b ≡ laid at (b ∷ []) out
+laid_byte at b [] h = absurd (omega arith)
+laid_byte zero b (o ∷ out) h = ap (λ l. b ∷ l) (sym (laid_nothing 0 out)) ∙ sym (laid_here b [] o out)
+laid_byte (suc at) b (o ∷ out) h = ap (λ l. o ∷ l) (laid_byte at b out (omega arith)) ∙ sym (laid_later at (b ∷ []) o out)
 
 -- a text and a second one behind it lie as the two in one
 pub laid_joined : (at : ℕ) (s t out : List ℕ) → laid (end_of at s (length out)) t (laid at s out) ≡ laid at (s ++ t) out

@@ -1,4 +1,4 @@
-ghost use Rattle.std.specs.Prelude.{◌≡◌, ◌+◌, ◌*◌, ◌≤◌, length, take};
+ghost use Rattle.std.specs.Prelude.{◌≡◌, ◌+◌, ◌*◌, ◌<◌, ◌≤◌, [], ◌∷◌, length, take};
 ghost use Rattle.printing.specs.Forms.{form_of, items_of};
 ghost use Rattle.printing.specs.Pages.{Printed};
 
@@ -56,19 +56,44 @@ impl<'a> Page<'a> {
         let mut digits = Buffer::new();
         for number in numbers {
             self.put(b" ");
-            self.put(digits.format(*number).as_bytes());
+            self.put_number(*number, &mut digits);
         }
     }
 
-    // Puts bytes, as far as there is room.
+    // Puts a number in decimal. Its digits are made in a buffer that serves all numbers of a form.
+    fn put_number<I: Integer>(&mut self, number: I, digits: &mut Buffer)
+        ensures printed { Printed (I.text number) self.old self.new }
+        ensures short { length (I.text number) ≤ I.MAX_STR_LEN }
+    {
+        self.put(digits.format(number).as_bytes());
+    }
+
+    // Puts bytes, as far as there is room, one by one: a copy of a slice would call for a function that a C program would
+    // have to bring along.
     fn put(&mut self, text: &[u8])
         ensures { Printed text.now self.old self.new }
     {
-        let Page { output, at } = self;
-        if *at < output.len() {
-            let count = text.len().min(output.len() - *at);
-            output[*at..*at + count].copy_from_slice(&text[..count]);
-            *at += count;
+        for byte in text {
+            self.put_byte(*byte);
         }
+    }
+
+    // Puts a byte, if there is room for it.
+    fn put_byte(&mut self, byte: u8)
+        ensures { Printed (byte ∷ []) self.old self.new }
+    {
+        if self.at < self.output.len() {
+            self.write_byte(byte);
+        }
+    }
+
+    // Writes a byte where what is written ends.
+    fn write_byte(&mut self, byte: u8)
+        requires { self.old.at < length self.old.output.now }
+        ensures { Printed (byte ∷ []) self.old self.new }
+    {
+        let Page { output, at } = self;
+        output[*at] = byte;
+        *at += 1;
     }
 }

@@ -15,14 +15,12 @@ loop-number-preserved g c =
     let i = c.loop-number.number-index in
     let n = c.number-item.result in
     let before = items_of text (take i numbers) in
-    let bytes : c.as_bytes.result.now ≡ text n = c.as_bytes.ensures.value ∙ c.format.ensures.text in
     let one_more : before ++ (32 ∷ text n) ≡ items_of text (take (i + 1) numbers) =
     ap (λ x. before ++ (32 ∷ text x)) c.number-item.is ∙ sym (items_more text numbers i n c.loop-number-test.true) in
-    let few : length (text n) ≤ most = subst (λ (t : List ℕ). length t ≤ most) c.format.ensures.text c.format.ensures.fits in
+    let few : length (text n) ≤ most = c.put_number.ensures.short in
     let count : length before + (1 + length (text n)) ≡ length (items_of text (take (i + 1) numbers)) =
     omega (arith, length-append before (32 ∷ text n), ap length one_more) in (
-      printed_as (ap (λ t. before ++ (32 ∷ t)) bytes ∙ one_more)
-          (printed_more c.loop-number.invariant.0 (printed_more c.put.ensures c.put-in-loop-number.ensures)),
+      printed_as one_more (printed_more c.loop-number.invariant.0 (printed_more c.put.ensures c.put_number.ensures.printed)),
       subst (λ (k : ℕ). k ≤ (i + 1) * (most + 1)) count (longer (length before) (length (text n)) i most c.loop-number.invariant.1 few),
     )
 
