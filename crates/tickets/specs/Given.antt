@@ -1,5 +1,5 @@
 -- What each ticket call returns, taken apart: what the numbered call returns, and the ticket in hand.
-use Rattle.std.specs.Prelude.{ℕ, Ok, Err, Result}
+use Rattle.std.specs.Prelude.{◌≡◌, ℕ, Ok, Err, Result}
 use Rattle.common.specs.declared.refusal.Refusal.{Refusal}
 use Rattle.rules.specs.declared.ending.Ending.{Ending}
 use Rattle.rules.specs.declared.ending.Sealed.{Sealed as Seal}
@@ -67,6 +67,12 @@ seal_given r = given sealing r
 abbrev pub seal_left : Result Sealing (Kept OpenTicket Stop) → Hand
 seal_left r = left sealing_left open_hand r
 
+-- the sealed ticket of a seal has the number that the seal gave
+abbrev pub seal_numbers : Result Sealing (Kept OpenTicket Stop) → Type 0
+seal_numbers (Ok (Reader t snapshot)) = Unit {0}
+seal_numbers (Ok (Updater t number)) = t.state.number ≡ number
+seal_numbers (Err k) = Unit {0}
+
 -- drain
 
 abbrev pub draining : Drained → ℕ
@@ -82,6 +88,12 @@ drain_given r = given draining r
 
 abbrev pub drain_left : Result Drained (Kept IdleTicket Refusal) → Hand
 drain_left r = left draining_left idle_hand r
+
+-- the sealed ticket that a drain leaves has the number that it had
+abbrev pub drain_numbers : ℕ → Result Drained (Kept IdleTicket Refusal) → Type 0
+drain_numbers n (Ok (More t left)) = t.state.number ≡ n
+drain_numbers n (Ok (All t)) = Unit {0}
+drain_numbers n (Err k) = Unit {0}
 
 -- back
 

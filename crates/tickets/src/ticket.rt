@@ -34,8 +34,8 @@ pub struct Sealed {
     pub(crate) number: u32,
 }
 
-// Only the updater of number 0 may be let go, and there is none, since numbers start at 1: so a program that forgets a
-// sealed ticket does not build.
+// Only the updater of number 0 may be let go, and there is none: a seal puts in the number that it answers, and these start
+// at 1. So a program that forgets a sealed ticket does not build.
 impl Drop for Sealed {
     fn drop(self)
         requires { self.number ≡ 0 }
@@ -75,7 +75,8 @@ impl IdleTicket {
 impl<State: Drop> Ticket<State> {
     // The same thread's ticket, once a call has brought its transaction into the next state.
     pub(crate) fn into_state<Next>(self, state: Next) -> Ticket<Next>
-        ensures { result.thread ≡ self.thread }
+        ensures thread { result.thread ≡ self.thread }
+        ensures state { result.state ≡ state }
     {
         let Ticket { thread, state: _ } = self;
         Ticket { thread, state }

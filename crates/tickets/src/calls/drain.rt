@@ -2,7 +2,7 @@ ghost use Rattle.std.specs.Prelude.{◌≡◌};
 ghost use Rattle.memory.specs.Memories.{Did, world};
 ghost use Rattle.rules.specs.Answers.{drain_answer};
 ghost use Rattle.rules.specs.Drain.{drain};
-ghost use Rattle.tickets.specs.Given.{drain_given, drain_left};
+ghost use Rattle.tickets.specs.Given.{drain_given, drain_left, drain_numbers};
 ghost use Rattle.tickets.specs.Hands.{drain_hand};
 
 use crate::outcomes::{Drained, Kept};
@@ -18,6 +18,7 @@ impl<S: WordStore, P: Policy> Tasks<S, P> {
     pub fn drain(&mut self, ticket: SealedTicket) -> Result<Drained, Kept<IdleTicket, Refusal>>
         ensures did { Did S.words S.home P.moved self.old.memory self.new.memory (drain_answer (drain_given result)) (drain (world S.words self.old.memory) ticket.thread.number) }
         ensures hand { drain_left result ≡ drain_hand ticket.thread.number (drain_given result) }
+        ensures numbered { drain_numbers ticket.state.number result }
         ensures claims { self.new.claims ≡ self.old.claims }
     {
         // A `match`, since both ways take the ticket: in a chain of `map` and `map_err` only one could.
