@@ -14,5 +14,6 @@ pub(crate) fn position<E: Keyed>(entries: &[E], key: u32) -> Option<usize>
 pub fn find<E: Keyed + Copy>(entries: &[E], key: u32) -> Option<E>
     ensures { result ≡ first_with E.Keyed.key key entries.now }
 {
-    entries.iter().find(|entry| entry.key() == key).copied()
+    let place = position(entries, key)?;
+    Some(entries[place])
 }
