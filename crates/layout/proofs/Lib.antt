@@ -1,1 +1,3 @@
+pub mod LockBits
+pub mod Masks
 pub mod Places

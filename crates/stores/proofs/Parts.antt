@@ -1,9 +1,15 @@
 -- A list cut to a part of it: what is read there, and what a write there changes.
-use Rattle.std.proofs.Common.{◌≡◌, ℕ, ◌+◌, ◌-◌, ◌<◌, ◌≤◌, min, List, ◌++◌, length, get_or, take, drop, set, ap, ◌∙◌, arith, length-drop, take-append-drop, length-take}
-use Rattle.std.proofs.Math.Seq.{take-set-lt}
+use Rattle.std.proofs.Common.{◌≡◌, ℕ, zero, suc, ◌+◌, ◌-◌, ◌<◌, ◌≤◌, min, List, [], ◌∷◌, ◌++◌, length, get_or, take, drop, set, refl, ap, ◌∙◌, arith, length-drop, take-append-drop, length-take}
 use Rattle.std.proofs.lemmas.List.{get_or-take, get_or-drop, take-set-le, drop-set-lt, drop-set-add, drop-drop, set_past}
 use Rattle.stores.specs.Words.{held}
 use Rattle.stores.specs.Parts.{part, before, past}
+
+-- a cut list with a word put in is the list with the word put in, cut
+pub take_set_any : (n : ℕ) (ws : List ℕ) (a w : ℕ) → take n (set ws a w) ≡ set (take n ws) a w
+take_set_any zero ws a w = refl
+take_set_any (suc n) [] a w = refl
+take_set_any (suc n) (x ∷ ws) zero w = refl
+take_set_any (suc n) (x ∷ ws) (suc a) w = ap (λ t. x ∷ t) (take_set_any n ws a w)
 
 pub held_length : (ws : List ℕ) → length (held ws) ≡ min 65536 (length ws)
 unfolding held
@@ -13,9 +19,9 @@ pub held_at : (ws : List ℕ) (a : ℕ) → a < length (held ws) → get_or (hel
 unfolding held
 held_at ws a h = get_or-take 65536 ws a 0 (omega (arith, length-take {A = ℕ}))
 
-pub held_set : (ws : List ℕ) (a w : ℕ) → a < length (held ws) → held (set ws a w) ≡ set (held ws) a w
+pub held_set : (ws : List ℕ) (a w : ℕ) → held (set ws a w) ≡ set (held ws) a w
 unfolding held
-held_set ws a w h = take-set-lt 65536 ws a w (omega (arith, length-take {A = ℕ}))
+held_set ws a w = take_set_any 65536 ws a w
 
 pub past_set : (n : ℕ) (ws : List ℕ) (a w : ℕ) → a < n → past n (set ws a w) ≡ past n ws
 unfolding past
@@ -33,9 +39,9 @@ pub part_at : (b n : ℕ) (ws : List ℕ) (a : ℕ) → a < length (part b n ws)
 unfolding part
 part_at b n ws a h = get_or-take n (drop b ws) a 0 (omega (arith, part_length b n ws)) ∙ get_or-drop b ws a 0
 
-pub part_set : (b n : ℕ) (ws : List ℕ) (a w : ℕ) → a < length (part b n ws) → part b n (set ws (b + a) w) ≡ set (part b n ws) a w
+pub part_set : (b n : ℕ) (ws : List ℕ) (a w : ℕ) → part b n (set ws (b + a) w) ≡ set (part b n ws) a w
 unfolding part
-part_set b n ws a w h = ap (take n) (drop-set-add b ws a w) ∙ take-set-lt n (drop b ws) a w (omega (arith, part_length b n ws))
+part_set b n ws a w = ap (take n) (drop-set-add b ws a w) ∙ take_set_any n (drop b ws) a w
 
 -- a list is what is held of it and what is past that
 pub held_whole : (ws : List ℕ) → held ws ++ past 65536 ws ≡ ws

@@ -25,17 +25,21 @@ pair_at (x ∷ (y ∷ rest)) (suc a) h =
     let here = pair_at rest a (omega arith) in
     rw (add-one, two) (rw add-one at here)
 
-pub pair_set : (rs : List ℕ) (a w high low : ℕ) → a < length (paired rs) → high ≡ w / 65536 → low ≡ w % 65536 → paired (set (set rs (2 * a) high) (2 * a + 1) low) ≡ set (paired rs) a w
+-- two halves put in a word's registers are the word that they are halves of
+pub paired_set : (rs : List ℕ) (a high low : ℕ) → a < length (paired rs) → paired (set (set rs (2 * a) high) (2 * a + 1) low) ≡ set (paired rs) a (high * 65536 + low)
 unfolding paired
-pair_set [] a w high low h _ _ = absurd (omega arith)
-pair_set (x ∷ []) a w high low h _ _ = absurd (omega arith)
-pair_set (x ∷ (y ∷ rest)) zero w high low h is_high is_low =
-    let whole : high * 65536 + low ≡ w = omega arith in
-    rw whole
-pair_set (x ∷ (y ∷ rest)) (suc a) w high low h is_high is_low =
+paired_set [] a high low h = absurd (omega arith)
+paired_set (x ∷ []) a high low h = absurd (omega arith)
+paired_set (x ∷ (y ∷ rest)) zero high low h = refl
+paired_set (x ∷ (y ∷ rest)) (suc a) high low h =
     let two : 2 * suc a ≡ suc (suc (2 * a)) = omega arith in
-    let here = pair_set rest a w high low (omega arith) is_high is_low in
+    let here = paired_set rest a high low (omega arith) in
     rw (add-one, two) (ap (λ t. (x * 65536 + y) ∷ t) (rw add-one at here))
+
+pub pair_set : (rs : List ℕ) (a w high low : ℕ) → a < length (paired rs) → high ≡ w / 65536 → low ≡ w % 65536 → paired (set (set rs (2 * a) high) (2 * a + 1) low) ≡ set (paired rs) a w
+pair_set rs a w high low h is_high is_low =
+    let whole : high * 65536 + low ≡ w = omega arith in
+    paired_set rs a high low h ∙ ap (set (paired rs) a) whole
 
 -- a word put where the first n words lie leaves the registers past them as they are
 past_pairs_set : (n : ℕ) (rs : List ℕ) (i v : ℕ) → i < 2 * min n (length rs / 2) → past_pairs n (set rs i v) ≡ past_pairs n rs
