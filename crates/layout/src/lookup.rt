@@ -10,7 +10,8 @@ pub(crate) fn position<E: Keyed>(entries: &[E], key: u32) -> Option<usize>
     entries.iter().position(|entry| entry.key() == key)
 }
 
-// The first entry with this key.
+// The first entry with this key. It reads the place that `position` finds, so that entries are looked up in one walk; the
+// iterator's `find` would be a second one.
 pub fn find<E: Keyed + Copy>(entries: &[E], key: u32) -> Option<E>
     ensures { result ≡ first_with E.Keyed.key key entries.now }
 {
