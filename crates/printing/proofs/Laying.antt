@@ -97,3 +97,14 @@ laid_joined (suc at) s t (b ∷ out) =
 pub end_joined : (at : ℕ) (s t : List ℕ) (size : ℕ) → end_of (end_of at s size) t size ≡ end_of at (s ++ t) size
 unfolding end_of
 end_joined at s t size = simp length-append (omega arith)
+
+-- what is laid where a text ends is laid with that text, and ends where the two in one end
+pub laid_further : (at end : ℕ) (s t out now after : List ℕ) → now ≡ laid at s out → end ≡ end_of at s (length out) → after ≡ laid end t now → after ≡ laid at (s ++ t) out
+laid_further at end s t out now after n e h = h ∙ ap (λ a. laid a t now) e ∙ ap (laid (end_of at s (length out)) t) n ∙ laid_joined at s t out
+
+pub end_further : (at end further : ℕ) (s t out now : List ℕ) → now ≡ laid at s out → end ≡ end_of at s (length out) → further ≡ end_of end t (length now) → further ≡ end_of at (s ++ t) (length out)
+end_further at end further s t out now n e h =
+    h
+    ∙ ap (λ a. end_of a t (length now)) e
+    ∙ ap (end_of (end_of at s (length out)) t) (ap length n ∙ length_laid at s out)
+    ∙ end_joined at s t (length out)

@@ -1,5 +1,6 @@
 ghost use Rattle.std.specs.Prelude.{◌≡◌, ◌+◌, ◌*◌, ◌<◌, ◌≤◌, [], ◌∷◌, length, take};
 ghost use Rattle.printing.specs.Forms.{form_of, items_of};
+ghost use Rattle.printing.specs.Laid.{laid, end_of};
 ghost use Rattle.printing.specs.Pages.{Printed};
 
 use itoa::{Buffer, Integer};
@@ -68,32 +69,45 @@ impl<'a> Page<'a> {
         self.put(digits.format(number).as_bytes());
     }
 
-    // Puts bytes, as far as there is room, one by one: a copy of a slice would call for a function that a C program would
-    // have to bring along.
+    // Puts bytes, as far as there is room.
     fn put(&mut self, text: &[u8])
         ensures { Printed text.now self.old self.new }
     {
-        for byte in text {
-            self.put_byte(*byte);
-        }
-    }
-
-    // Puts a byte, if there is room for it.
-    fn put_byte(&mut self, byte: u8)
-        ensures { Printed (byte ∷ []) self.old self.new }
-    {
-        if self.at < self.output.len() {
-            self.write_byte(byte);
-        }
-    }
-
-    // Writes a byte where what is written ends.
-    fn write_byte(&mut self, byte: u8)
-        requires { self.old.at < length self.old.output.now }
-        ensures { Printed (byte ∷ []) self.old self.new }
-    {
         let Page { output, at } = self;
-        output[*at] = byte;
-        *at += 1;
+        *at = put_bytes(output, *at, text);
     }
+}
+
+// Puts bytes into an output from a place on, as far as there is room; answers where they end. They are put one by one: a copy
+// of a slice would call for a function that a C program would have to bring along.
+fn put_bytes(output: &mut [u8], mut at: usize, bytes: &[u8]) -> usize
+    ensures after { output.new ≡ laid at bytes.now output.old }
+    ensures end { result ≡ end_of at bytes.now (length output.old) }
+{
+    for byte in bytes {
+        at = put_byte(output, at, *byte);
+    }
+    at
+}
+
+// Puts a byte into an output at a place, if there is room for it; answers where it ends.
+fn put_byte(output: &mut [u8], at: usize, byte: u8) -> usize
+    ensures after { output.new ≡ laid at (byte ∷ []) output.old }
+    ensures end { result ≡ end_of at (byte ∷ []) (length output.old) }
+{
+    if at < output.len() {
+        write_byte(output, at, byte)
+    } else {
+        at
+    }
+}
+
+// Writes a byte at a place of an output; answers the place behind it.
+fn write_byte(output: &mut [u8], at: usize, byte: u8) -> usize
+    requires { at < length output.old }
+    ensures after { output.new ≡ laid at (byte ∷ []) output.old }
+    ensures end { result ≡ end_of at (byte ∷ []) (length output.old) }
+{
+    output[at] = byte;
+    at + 1
 }
